@@ -1,0 +1,2 @@
+-- Laws about deposit, withdraw and rent.
+pub mod Cleared

@@ -1,0 +1,2 @@
+-- Laws about the signed account.
+pub mod Balances

@@ -1,0 +1,47 @@
+-- Laws about a test of every element of a list.
+use mathlib.Core.Path.{_≡_, refl, ap₂}
+use mathlib.Core.Bool.{Bool, true, _&&_}
+use mathlib.Core.List.{List, [], _∷_, _++_, map}
+use Prim.Native.Nat.{ℕ, zero, suc}
+use lib.ListN.{getD, take, set, replicate}
+use Rattle.market.proofs.Tests.{left-true, right-true}
+use Rattle.market.specs.Books.{every}
+
+both-true : {s t : Bool} → s ≡ true → t ≡ true → (s && t) ≡ true
+both-true p q = ap₂ _&&_ p q
+
+module _ {A : Type 0} (test : A → Bool) where
+  -- what passes a test, read at any place: past the end stands what is given for there
+  pub every-at-any : (l : List A) (i : ℕ) (d : A) → every test l ≡ true → test d ≡ true → test (getD l i d) ≡ true
+  every-at-any [] i d h e = e
+  every-at-any (x ∷ l) zero d h e = left-true (test x) (every test l) h
+  every-at-any (x ∷ l) (suc i) d h e = every-at-any l i d (right-true (test x) (every test l) h) e
+
+  pub every-append : (l r : List A) → every test l ≡ true → every test r ≡ true → every test (l ++ r) ≡ true
+  every-append [] r h k = k
+  every-append (x ∷ l) r h k =
+      both-true (left-true (test x) (every test l) h)
+      (every-append l r (right-true (test x) (every test l) h) k)
+
+  pub every-take : (n : ℕ) (l : List A) → every test l ≡ true → every test (take n l) ≡ true
+  every-take zero l h = refl
+  every-take (suc n) [] h = refl
+  every-take (suc n) (x ∷ l) h =
+      both-true (left-true (test x) (every test l) h) (every-take n l (right-true (test x) (every test l) h))
+
+  pub every-replicate : (n : ℕ) (x : A) → test x ≡ true → every test (replicate n x) ≡ true
+  every-replicate zero x h = refl
+  every-replicate (suc n) x h = both-true h (every-replicate n x h)
+
+  pub every-set : (l : List A) (i : ℕ) (x : A) → every test l ≡ true → test x ≡ true → every test (set l i x) ≡ true
+  every-set [] i x h e = refl
+  every-set (y ∷ l) zero x h e = both-true e (right-true (test y) (every test l) h)
+  every-set (y ∷ l) (suc i) x h e =
+      both-true (left-true (test y) (every test l) h) (every-set l i x (right-true (test y) (every test l) h) e)
+
+-- a test that follows from another, over the images of a list
+pub every-map : {A B : Type 0} (f : A → B) (test : B → Bool) (given : A → Bool) → ((a : A) → given a ≡ true → test (f a) ≡ true) → (l : List A) → every given l ≡ true → every test (map f l) ≡ true
+every-map f test given follows [] h = refl
+every-map f test given follows (x ∷ l) h =
+    both-true (follows x (left-true (given x) (every given l) h))
+    (every-map f test given follows l (right-true (given x) (every given l) h))

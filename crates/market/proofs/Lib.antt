@@ -1,0 +1,7 @@
+-- Laws about the market's rules, which the proofs of this crate and of those above it cite.
+pub mod Every
+pub mod Filled
+pub mod FreshLaws
+pub mod SoundLaws
+pub mod Tables
+pub mod Tests

@@ -1,0 +1,94 @@
+-- What a sound book gives, part by part.
+use mathlib.Core.Path.{_≡_}
+use mathlib.Core.Bool.{true, _&&_, or-true}
+use Prim.Native.Nat.{ℕ, _≤_}
+use lib.Dec.{leb, eqb}
+use borrow.Author.Tests.{leb-true}
+use Rattle.market.proofs.Every.{every-at-any}
+use Rattle.market.proofs.Tests.{left-true, right-true}
+use Rattle.market.specs.Books.{every, _implies_, pathsOf, noBidder, bidderOf, noValue, heldOf}
+use Rattle.market.specs.Limits.{pathLimit, entryLimit, roundTwoOwedLimit, moneyLimit, owedLimit, stepLimit}
+use Rattle.market.specs.Sound.{soundPathCount, soundStage, roundOf, soundPath, soundBidder, soundAccount, soundBook}
+use Rattle.market.specs.declared.book.Bidder.{Bidder}
+use Rattle.market.specs.declared.book.Book.{Book}
+use Rattle.market.specs.declared.book.Direction.the-variants.{Export}
+use Rattle.market.specs.declared.book.Route.{Route}
+
+-- what is read past the end of a list of routes
+abbrev pub noRoute : Route
+noRoute = record { direction = Export; zone = 0 }
+
+pub count-within : (n : ℕ) → soundPathCount n ≡ true → n ≤ pathLimit
+count-within n h = leb-true n pathLimit (right-true (leb 1 n) (leb n pathLimit) h)
+
+-- the parts of a sound book
+pub record SoundParts (b : Book) : Type 0 where
+  pub path-count : soundPathCount (b .«path_count») ≡ true
+  pub entries : b .entries ≤ entryLimit
+  pub stage : soundStage (b .stage) ≡ true
+  pub paths : every (soundPath (roundOf (b .stage))) (pathsOf b) ≡ true
+  pub bidders : every (soundBidder (roundOf (b .stage))) (b .bidders) ≡ true
+  pub account : soundAccount (b .account .0) ≡ true
+
+pub sound-parts : (b : Book) → soundBook b ≡ true → SoundParts b
+unfolding soundBook
+sound-parts b h =
+    let ways = roundOf (b .stage) in
+    let count = soundPathCount (b .«path_count») in
+    let entries = leb (b .entries) entryLimit in
+    let stage = soundStage (b .stage) in
+    let paths = every (soundPath ways) (pathsOf b) in
+    let bidders = every (soundBidder ways) (b .bidders) in
+    let account = soundAccount (b .account .0) in
+    let h₅ = left-true (count && entries && stage && paths && bidders) account h in
+    let h₄ = left-true (count && entries && stage && paths) bidders h₅ in
+    let h₃ = left-true (count && entries && stage) paths h₄ in
+    let h₂ = left-true (count && entries) stage h₃ in
+    record {
+      path-count = left-true count entries h₂;
+      entries = leb-true (b .entries) entryLimit (right-true count entries h₂);
+      stage = right-true (count && entries) stage h₃;
+      paths = right-true (count && entries && stage) paths h₄;
+      bidders = right-true (count && entries && stage && paths) bidders h₅;
+      account = right-true (count && entries && stage && paths && bidders) account h;
+    }
+
+-- the bounds of a sound bidder
+pub record BidderBounds (x : Bidder) : Type 0 where
+  pub held : heldOf x ≤ moneyLimit
+  pub letter : x .letter .0 ≤ moneyLimit
+  pub hold : x .hold .0 ≤ x .letter .0
+  pub owed : x .owed .0 ≤ owedLimit
+  pub step : x .step ≤ stepLimit
+
+bidder-bounds : (round : ℕ) (x : Bidder) → soundBidder round x ≡ true → BidderBounds x
+bidder-bounds round x h =
+    let one = eqb round 1 implies noValue x in
+    let two = eqb round 2 implies leb (x .owed .0) roundTwoOwedLimit in
+    let held = leb (heldOf x) moneyLimit in
+    let letter = leb (x .letter .0) moneyLimit in
+    let hold = leb (x .hold .0) (x .letter .0) in
+    let owed = leb (x .owed .0) owedLimit in
+    let step = leb (x .step) stepLimit in
+    let h₅ = left-true (one && two && held && letter && hold && owed) step h in
+    let h₄ = left-true (one && two && held && letter && hold) owed h₅ in
+    let h₃ = left-true (one && two && held && letter) hold h₄ in
+    let h₂ = left-true (one && two && held) letter h₃ in
+    record {
+      held = leb-true (heldOf x) moneyLimit (right-true (one && two) held h₂);
+      letter = leb-true (x .letter .0) moneyLimit (right-true (one && two && held) letter h₃);
+      hold = leb-true (x .hold .0) (x .letter .0) (right-true (one && two && held && letter) hold h₄);
+      owed = leb-true (x .owed .0) owedLimit (right-true (one && two && held && letter && hold) owed h₅);
+      step = leb-true (x .step) stepLimit (right-true (one && two && held && letter && hold && owed) step h);
+    }
+
+-- a bidder with nothing is sound at every round
+nothing-sound : (round : ℕ) → soundBidder round noBidder ≡ true
+nothing-sound round = simp or-true
+
+-- every number of a sound book has a bidder within the bounds
+pub bidder-within : (b : Book) (i : ℕ) → soundBook b ≡ true → BidderBounds (bidderOf b i)
+bidder-within b i h =
+    let round = roundOf (b .stage) in
+    bidder-bounds round (bidderOf b i)
+    (every-at-any (soundBidder round) (b .bidders) i noBidder (sound-parts b h .bidders) (nothing-sound round))

@@ -1,0 +1,68 @@
+use lib.ListN.{replicate, take}
+use Rattle.market.specs.declared.book.Path.{Path}
+use Rattle.market.specs.Limits.{pathLimit}
+use mathlib.Core.List.{List, [], _∷_}
+use mathlib.Core.Path.{sym, _∙_, ap}
+use mathlib.Core.Bool.{not}
+use borrow.Author.Tests.{not-false}
+use Rattle.market.proofs.SoundLaws.{count-within}
+use Rattle.market.proofs.Tables.{none-holds, refuses, takes}
+use Rattle.market.specs.Answers.{_gives_, refused, answered}
+use Rattle.market.specs.Fresh.{fresh, freshRefusals, noBook, freshBook, bookOf, soundRoute}
+use Rattle.market.specs.Books.{every}
+use Rattle.market.specs.Sound.{soundPathCount}
+use Rattle.market.specs.declared.book.Book.{Book}
+use borrow.Author.Needs.{needs}
+use Rattle.market.proofs.engine.Engine.fresh.Statement.{statement}
+use Rattle.market.proofs.engine.Engine.fresh.Tie as tie
+
+refusal-requires : tie.Need-refusal-requires
+refusal-requires c κs = search needs
+
+no-path-requires : tie.Need-no-path-requires
+no-path-requires c κs = search needs
+
+book-of-requires : tie.Need-book-of-requires
+book-of-requires c κs = search needs
+
+returns : tie.Need-returns
+unfolding fresh noBook
+returns c =
+    let a = c .before .before .before .before .args in
+    let n = c .before .before .before .refusal .result in
+    ap (λ (b : Book). refused b n)
+    (c .book-of .ensures ∙ ap (λ (p : Path). bookOf (replicate pathLimit p) 0) (c .before .no-path .ensures))
+    ∙ refuses noBook (freshRefusals (a .routes) (a .count)) (answered (freshBook (a .routes) (a .count))) n
+    (c .before .before .before .refusal .ensures) (c .before .before .if1 .taken)
+
+fresh-paths-requires : tie.Need-fresh-paths-requires
+fresh-paths-requires c κs =
+    let a = c .before .before .args in
+    let none = sym (c .before .refusal .ensures) ∙ c .if1 .left in
+    let rest = (not (every soundRoute (take (a .count) (a .routes))) gives 25) ∷ [] in
+    count-within (a .count) (not-false _ (none-holds (not (soundPathCount (a .count))) 25 rest tt none .0))
+
+book-of-requires-2 : tie.Need-book-of-requires-2
+book-of-requires-2 c κs = search needs
+
+returns-2 : tie.Need-returns-2
+unfolding fresh freshBook
+returns-2 c =
+    let a = c .before .before .before .before .args in
+    let n = c .before .before .before .refusal .result in
+    ap answered
+    (c .book-of2 .ensures ∙ ap (λ (l : List Path). bookOf l (a .count)) (c .before .fresh-paths .ensures))
+    ∙ takes noBook (freshRefusals (a .routes) (a .count)) (answered (freshBook (a .routes) (a .count))) n
+    (c .before .before .before .refusal .ensures) (c .before .before .if1 .left)
+
+pub fresh-spec : {M : Type 1} → statement M
+fresh-spec =
+    tie.close
+    (tie.spec
+    refusal-requires
+    no-path-requires
+    book-of-requires
+    returns
+    fresh-paths-requires
+    book-of-requires-2
+    returns-2)

@@ -1,0 +1,80 @@
+use Rattle.market.proofs.SoundLaws.{noRoute}
+use lib.ListN.{set}
+use mathlib.Core.List.{List}
+use Rattle.market.specs.declared.book.Path.{Path}
+use native.Mathlib.Omega.{arith}
+use borrow.Author.Needs.{needs}
+use mathlib.Core.Path.{_≡_, _∙_, ap}
+use Prim.Native.Nat.{_≤_, _-_}
+use Rattle.market.proofs.Filled.{filled, fill-next}
+use Rattle.market.specs.Fresh.{freshPath}
+use Rattle.market.specs.Books.{noPath}
+use Rattle.market.specs.Limits.{pathLimit}
+use Rattle.market.proofs.fresh.fresh_paths.Statement.{statement}
+use Rattle.market.proofs.fresh.fresh_paths.Tie as tie
+
+abbrev Inv-loop : tie.InvT-loop
+Inv-loop count routes paths₀ i₀ paths i = (i ≤ count) × (paths ≡ filled freshPath routes pathLimit noPath i)
+
+abbrev μ-loop : tie.MeasureT-loop
+μ-loop count routes paths₀ i₀ paths i = count - i
+
+no-path-requires : tie.Need-no-path-requires Inv-loop μ-loop
+no-path-requires c κs = search needs
+
+loop-holds : tie.Need-loop-holds Inv-loop μ-loop
+loop-holds c = (search needs, rw (c .no-path .ensures))
+
+mul-fresh-path : tie.Need-mul-fresh-path Inv-loop μ-loop
+mul-fresh-path c = search needs
+
+array-copy-out-fresh-path : tie.Need-array-copy-out-fresh-path Inv-loop μ-loop
+array-copy-out-fresh-path c = search needs
+
+fresh-path-requires : tie.Need-fresh-path-requires Inv-loop μ-loop
+fresh-path-requires c κs = search needs
+
+mul-paths : tie.Need-mul-paths Inv-loop μ-loop
+mul-paths c = search needs
+
+array-set-from-paths : tie.Need-array-set-from-paths Inv-loop μ-loop
+array-set-from-paths c = search needs
+
+add-i : tie.Need-add-i Inv-loop μ-loop
+add-i c = search needs
+
+loop-less : tie.Need-loop-less Inv-loop μ-loop
+loop-less c = search needs
+
+loop-again : tie.Need-loop-again Inv-loop μ-loop
+loop-again c =
+    let routes = c .before .before .before .before .before .args .t1 in
+    let at = c .before .before .before .loop in (
+      search needs,
+      ap (λ (l : List Path). set l (at .i) (c .fresh-path .result)) (at .inv .1)
+          ∙ ap (set (filled freshPath routes pathLimit noPath (at .i)) (at .i)) (c .fresh-path .ensures)
+          ∙ fill-next freshPath routes pathLimit noPath (at .i) noRoute (search needs) (search needs),
+    )
+
+returns : tie.Need-returns Inv-loop μ-loop
+returns c =
+    let all : c .before .loop .i ≡ c .before .before .before .args .count = omega arith in
+    c .before .loop .inv .1 ∙ ap (filled freshPath (c .before .before .before .args .t1) pathLimit noPath) all
+
+pub fresh-paths-spec : {M : Type 1} → statement M
+fresh-paths-spec =
+    tie.close
+    (tie.spec
+    Inv-loop
+    μ-loop
+    no-path-requires
+    loop-holds
+    mul-fresh-path
+    array-copy-out-fresh-path
+    fresh-path-requires
+    mul-paths
+    array-set-from-paths
+    add-i
+    loop-less
+    loop-again
+    returns)

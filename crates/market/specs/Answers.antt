@@ -1,0 +1,46 @@
+-- Document 01, "Refusals, by who can cause one": which refusal a call gets, and what a refusal does.
+use mathlib.Core.Bool.{Bool, cond}
+use mathlib.Core.List.{List, [], _∷_}
+use Prim.Native.Nat.{ℕ, zero, suc}
+use Rattle.market.specs.declared.answer.Answer.{Answer}
+use Rattle.market.specs.declared.answer.Answer.the-variants.{Refused, Done}
+use Rattle.market.specs.declared.answer.Outcome.{Outcome}
+use Rattle.market.specs.declared.book.Book.{Book}
+
+-- a call's refusals are a table: a row is a test and the number that it gives
+abbrev pub Row : Type 0
+Row = Bool × ℕ
+
+infix 20 _gives_
+abbrev pub _gives_ : Bool → ℕ → Row
+test gives number = (test, number)
+
+-- "Order: 1, 2, 20, 22, then rising, with 23 and 31 last": a table has its rows in that order, and the first row whose test
+-- holds decides; 0 where none does
+abbrev pub firstOf : List Row → ℕ
+firstOf [] = 0
+firstOf (row ∷ rows) = cond (row .0) (row .1) (firstOf rows)
+
+-- "An answer may be an enum. If so, a definition gives this paper's number and values for each of the enum's cases":
+-- the number of the refusal, 0 where the call is answered
+abbrev pub answerNumber : Answer → ℕ
+answerNumber (Refused number) = number
+answerNumber Done = 0
+
+-- the numbers that an answer carries besides
+abbrev pub answerValues : Answer → List ℕ
+answerValues (Refused number) = []
+answerValues Done = []
+
+-- "A refusal returns its number; nothing lent or held differs afterwards."
+abbrev pub refused : Book → ℕ → Outcome
+refused book number = record { answer = Refused number; book = book }
+
+-- a call that answers only that it is done
+abbrev pub answered : Book → Outcome
+answered book = record { answer = Done; book = book }
+
+-- a call: refused where a row of its table holds, else answered with its effect on the book
+abbrev pub decided : Book → ℕ → Outcome → Outcome
+decided book zero taken = taken
+decided book (suc n) taken = refused book (suc n)

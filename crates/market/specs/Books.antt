@@ -1,0 +1,95 @@
+-- Document 01, "Book and units": what the book holds, and a book with one part changed. The types themselves are those that
+-- `src/` declares.
+use mathlib.Core.Bool.{Bool, true, not, _&&_, _||_}
+use mathlib.Core.List.{List, [], _∷_}
+use Prim.Native.Nat.{ℕ, _+_}
+use lib.Dec.{eqb}
+use lib.IntN.{ℤ}
+use lib.ListN.{take, getD, set}
+use Rattle.market.specs.declared.book.Bidder.{Bidder}
+use Rattle.market.specs.declared.book.Book.{Book}
+use Rattle.market.specs.declared.book.Direction.the-variants.{Export}
+use Rattle.market.specs.declared.book.Path.{Path}
+use Rattle.market.specs.declared.units.Balance.{Balance}
+use Rattle.market.specs.declared.units.Cents.{Cents}
+use Rattle.market.specs.declared.units.Megawatts.{Megawatts}
+
+-- a test holds of every element of a list
+abbrev pub every {ℓ} : {A : Type ℓ} → (A → Bool) → List A → Bool
+every test [] = true
+every test (x ∷ xs) = test x && every test xs
+
+-- one test holds wherever another does
+infix 25 _implies_
+abbrev pub _implies_ : Bool → Bool → Bool
+a implies b = not a || b
+
+-- "Cents, megawatts and day numbers each have their own kind": a number as one of the kinds
+abbrev pub cents : ℕ → Cents
+cents n = record { 0 = n }
+
+abbrev pub megawatts : ℕ → Megawatts
+megawatts n = record { 0 = n }
+
+abbrev pub balance : ℤ → Balance
+balance z = record { 0 = z }
+
+-- "The book holds 1 to 16 paths, numbered from 0": slots past the count are no part of the book
+abbrev pub pathsOf : Book → List Path
+pathsOf b = take (b .«path_count») (b .paths)
+
+-- a path with nothing, as past the book's paths
+abbrev pub noPath : Path
+noPath = record { direction = Export; zone = 0; offer = megawatts 0; sold = megawatts 0 }
+
+-- a bidder with nothing, as in a fresh book: "all else 0"
+abbrev pub noBidder : Bidder
+noBidder = record { cash = cents 0; applied = cents 0; letter = cents 0; hold = cents 0; owed = cents 0; step = 0 }
+
+-- "32 bidders, 0 to 31": the bidder of a number
+abbrev pub bidderOf : Book → ℕ → Bidder
+bidderOf b i = getD (b .bidders) i noBidder
+
+-- "Value = applied + owed."
+abbrev pub valueOf : Bidder → ℕ
+valueOf x = x .applied .0 + x .owed .0
+
+-- "every value 0": of one bidder
+abbrev pub noValue : Bidder → Bool
+noValue x = eqb (valueOf x) 0
+
+-- "Cash held is all cash and applied": one bidder's
+abbrev pub heldOf : Bidder → ℕ
+heldOf x = x .cash .0 + x .applied .0
+
+-- a bidder with another cash, or another letter
+abbrev pub withCash : Bidder → ℕ → Bidder
+withCash x n =
+    record { cash = cents n; applied = x .applied; letter = x .letter; hold = x .hold; owed = x .owed; step = x .step }
+
+abbrev pub withLetter : Bidder → ℕ → Bidder
+withLetter x n =
+    record { cash = x .cash; applied = x .applied; letter = cents n; hold = x .hold; owed = x .owed; step = x .step }
+
+-- a book with another bidder at a number, or another account
+abbrev pub withBidder : Book → ℕ → Bidder → Book
+withBidder b i x =
+    record {
+      paths = b .paths;
+      «path_count» = b .«path_count»;
+      bidders = set (b .bidders) i x;
+      account = b .account;
+      entries = b .entries;
+      stage = b .stage;
+    }
+
+abbrev pub withAccount : Book → ℤ → Book
+withAccount b z =
+    record {
+      paths = b .paths;
+      «path_count» = b .«path_count»;
+      bidders = b .bidders;
+      account = balance z;
+      entries = b .entries;
+      stage = b .stage;
+    }

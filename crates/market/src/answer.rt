@@ -1,0 +1,50 @@
+// Refusals and answers.
+use crate::book::Book;
+ghost use mathlib.Core.Path.{_≡_};
+ghost use Rattle.market.specs.Answers.{answerNumber};
+
+// The refusals, by the paper's numbers.
+pub struct Refusal {}
+
+impl Refusal {
+    // No refusal: the call is taken.
+    pub const NONE: u32 = 0;
+    // The calling program's.
+    pub const SHORT_BUFFER: u32 = 1;
+
+    pub const UNSOUND: u32 = 2;
+    // A bidder's.
+    pub const BIDDER: u32 = 10;
+
+    pub const AMOUNT: u32 = 11;
+
+    pub const WITHDRAWAL: u32 = 12;
+    // The auction desk's.
+    pub const QUANTITY: u32 = 25;
+    // Settlement's.
+    pub const ACCOUNT: u32 = 31;
+}
+
+// What a call answers: the refusal's number, or that it is done.
+pub enum Answer {
+    Refused(u32),
+    Done,
+}
+
+impl Answer {
+    // The paper's number of a refusal, and 0 where the call is answered.
+    pub fn number(self) -> u32
+        ensures { λ r. ⌜ r ≡ answerNumber self ⌝ }
+    {
+        match self {
+            Answer::Refused(number) => number,
+            Answer::Done => Refusal::NONE,
+        }
+    }
+}
+
+// A call's answer, and the book after it.
+pub struct Outcome {
+    pub answer: Answer,
+    pub book: Book,
+}

@@ -1,0 +1,76 @@
+// The engine's release and rule edition, every limit of the paper, and its fresh book and stage.
+use crate::answer::Answer;
+use crate::answer::Outcome;
+use crate::answer::Refusal;
+use crate::book::Route;
+use crate::book::Stage;
+use crate::fresh;
+ghost use mathlib.Core.Path.{_≡_};
+ghost use Rattle.market.specs.Fresh as rules;
+
+pub struct Engine {}
+
+impl Engine {
+    pub const RELEASE: u32 = 1;
+
+    pub const RULES: u32 = 1;
+
+    // The book.
+    pub const PATHS: usize = 16;
+
+    pub const ZONE_LIMIT: u32 = 15;
+
+    pub const BIDDERS: usize = 32;
+
+    pub const MONEY_LIMIT: u64 = 1_000_000_000_000;
+
+    pub const OWED_LIMIT: u64 = 100_000_000_000_000;
+
+    pub const ROUND_TWO_OWED_LIMIT: u64 = 20_000_000_000_000;
+
+    pub const STEP_LIMIT: u32 = 3;
+
+    pub const ACCOUNT_LIMIT: i64 = 1_000_000_000_000_000;
+
+    pub const ACCOUNT_FLOOR: i64 = -Engine::ACCOUNT_LIMIT;
+
+    pub const QUANTITY_LIMIT: u32 = 9_999;
+
+    pub const DAY_LIMIT: u32 = 65_535;
+
+    // The register.
+    pub const ENTRIES: usize = 1_024;
+
+    pub const ENTRY_WORDS: usize = 6;
+
+    pub const REGISTER_WORDS: usize = Engine::ENTRIES * Engine::ENTRY_WORDS;
+
+    pub const PENDING: u32 = 1;
+
+    pub const ISSUED: u32 = 2;
+
+    // The idle stage.
+    pub fn idle() -> Stage
+        ensures { λ r. ⌜ r ≡ Stage.Idle ⌝ }
+    {
+        Stage::Idle
+    }
+
+    // A fresh book with the first `count` routes as its paths, or refusal 25 with a book that has no path.
+    pub fn fresh(routes: [Route; Engine::PATHS], count: usize) -> Outcome
+        ensures { λ r. ⌜ r ≡ rules.fresh routes count ⌝ }
+    {
+        let number = fresh::refusal(routes, count);
+        if number != Refusal::NONE {
+            let none = [fresh::no_path(); Engine::PATHS];
+            return Outcome {
+                answer: Answer::Refused(number),
+                book: fresh::book_of(none, 0),
+            };
+        }
+        Outcome {
+            answer: Answer::Done,
+            book: fresh::book_of(fresh::fresh_paths(routes, count), count),
+        }
+    }
+}

@@ -1,0 +1,13 @@
+// Cents, megawatts and day numbers, each a kind of its own, so that one is never taken for another.
+
+// An amount of whole cents, never below 0.
+pub struct Cents(pub u64);
+
+// A signed amount of whole cents: the clearing account's.
+pub struct Balance(pub i64);
+
+// A quantity of whole megawatts.
+pub struct Megawatts(pub u32);
+
+// A day number; day 0 is 2000-01-01.
+pub struct Day(pub u32);
