@@ -1,12 +1,12 @@
 -- Laws about the signed account: what a sound balance leaves room for.
 use mathlib.Core.Path.{_≡_}
-use mathlib.Core.Bool.{Bool, true, false, cond}
-use Prim.Native.Nat.{ℕ, suc, _-_, _≤_}
+use mathlib.Core.Bool.{Bool, true, false, cond, true≢false}
+use Prim.Native.Nat.{ℕ, zero, suc, zero-le, _-_, _≤_, _<_}
 use native.Mathlib.Omega.{arith}
-use lib.Dec.{leb, ltb}
-use lib.IntN.{ℤ, pos, negsuc, _+ℤ_, subℕ}
-use lib.Signed.{mag}
-use borrow.Author.Tests.{leb-true}
+use lib.Dec.{T, leb, ltb, lit<}
+use lib.IntN.{ℤ, pos, negsuc, natAbs, _+ℤ_, _-ℤ_, subℕ}
+use lib.Signed.{mag, ltZ, nonNeg}
+use borrow.Author.Tests.{leb-true, ltb-true}
 use mir.Syntax.{w64}
 use mir.Val.{SFits}
 use Rattle.market.proofs.Tests.{left-true}
@@ -29,3 +29,31 @@ sum-fits (pos a) n h k =
 sum-fits (negsuc a) n h k =
     let at-most : a ≤ accountLimit - 1 = leb-true a (accountLimit - 1) (left-true (leb a (accountLimit - 1)) true h) in
     record { sfits = omega (arith, difference-mag n (suc a) accountLimit k (omega arith)) }
+
+-- the other sign of a sound balance fits too
+pub opposite-fits : (z : ℤ) → soundAccount z ≡ true → SFits w64 (pos 0 -ℤ z)
+opposite-fits (pos zero) h = record { sfits = lit< tt }
+opposite-fits (pos (suc a)) h =
+    let at-most : suc a ≤ accountLimit = leb-true (suc a) accountLimit h in
+    record { sfits = omega (arith, difference-mag 0 (suc a) accountLimit zero-le at-most) }
+opposite-fits (negsuc a) h =
+    let at-most : a ≤ accountLimit - 1 = leb-true a (accountLimit - 1) (left-true (leb a (accountLimit - 1)) true h) in
+    record { sfits = omega arith }
+
+-- a sound balance's magnitude is an amount
+pub magnitude-within : (z : ℤ) → soundAccount z ≡ true → natAbs z ≤ accountLimit
+magnitude-within (pos a) h = leb-true a accountLimit h
+magnitude-within (negsuc a) h =
+    let at-most : a ≤ accountLimit - 1 = leb-true a (accountLimit - 1) (left-true (leb a (accountLimit - 1)) true h) in
+    omega arith
+
+-- below 0 the other sign is not below 0, and of the same magnitude; from 0 on the balance is itself not below 0
+pub opposite-above : (z : ℤ) → ltZ z (pos 0) ≡ true → T (nonNeg (pos 0 -ℤ z)) × (natAbs (pos 0 -ℤ z) ≡ natAbs z)
+opposite-above (pos a) h =
+    let below : a < 0 = ltb-true a 0 h in
+    absurd (omega arith)
+opposite-above (negsuc a) h = (tt, omega arith)
+
+pub from-zero : (z : ℤ) → ltZ z (pos 0) ≡ false → T (nonNeg z)
+from-zero (pos a) h = tt
+from-zero (negsuc a) h = absurd (true≢false h)

@@ -5,8 +5,9 @@ use market::units::Cents;
 ghost use mathlib.Core.Path.{_≡_};
 ghost use mathlib.Core.Bool.{true};
 ghost use Prim.Native.Nat.{_≤_};
-ghost use lib.IntN.{pos, _+ℤ_};
-ghost use Rattle.market.specs.Books.{balance};
+ghost use lib.IntN.{pos, natAbs, _+ℤ_};
+ghost use lib.Signed.{ltZ};
+ghost use Rattle.market.specs.Books.{balance, cents};
 ghost use Rattle.market.specs.Limits.{accountLimit};
 ghost use Rattle.market.specs.Sound.{soundAccount};
 
@@ -38,4 +39,35 @@ pub fn plus(account: Balance, amount: Cents) -> Balance
     ensures { λ r. ⌜ r ≡ balance (account .0 +ℤ pos (amount .0)) ⌝ }
 {
     Balance(sum(account.0, amount.0))
+}
+
+fn below_zero_cents(cents: i64) -> bool
+    ensures { λ r. ⌜ r ≡ ltZ cents (pos 0) ⌝ }
+{
+    cents < 0
+}
+
+fn magnitude_cents(cents: i64) -> u64
+    requires { ⌜ soundAccount cents ≡ true ⌝ }
+    ensures { λ r. ⌜ r ≡ natAbs cents ⌝ }
+{
+    if cents < 0 {
+        return (0 - cents) as u64;
+    }
+    cents as u64
+}
+
+// Whether a balance is below 0.
+pub fn below_zero(account: Balance) -> bool
+    ensures { λ r. ⌜ r ≡ ltZ (account .0) (pos 0) ⌝ }
+{
+    below_zero_cents(account.0)
+}
+
+// A balance without its sign.
+pub fn magnitude(account: Balance) -> Cents
+    requires { ⌜ soundAccount (account .0) ≡ true ⌝ }
+    ensures { λ r. ⌜ r ≡ cents (natAbs (account .0)) ⌝ }
+{
+    Cents(magnitude_cents(account.0))
 }

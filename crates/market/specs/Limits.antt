@@ -67,3 +67,63 @@ quantityLimit = 9999
 -- "last at most 65,535"
 abbrev pub dayLimit : ℕ
 dayLimit = 65535
+
+-- ---- The auction
+
+-- "n is 1 to 20"
+abbrev pub laminationLimit : ℕ
+laminationLimit = 20
+
+-- "price 1 to 10^8"
+abbrev pub priceLimit : ℕ
+priceLimit = 10 ^ 8
+
+-- "bid list over 4,096 words"
+abbrev pub bidListWords : ℕ
+bidListWords = 4096
+
+-- "2,728 for bids", four words each; "48 for paths", three words each
+abbrev pub bidAnswerWords : ℕ
+bidAnswerWords = 2728
+
+abbrev pub pathAnswerWords : ℕ
+pathAnswerWords = 48
+
+-- "The ordering scratch lent is 2,048 words."
+abbrev pub scratchWords : ℕ
+scratchWords = 2048
+
+-- ---- Settlement
+
+-- "16 zone prices of −10^6 to 10^6 cents"
+abbrev pub zones : ℕ
+zones = 16
+
+abbrev pub zonePriceLimit : ℕ
+zonePriceLimit = 10 ^ 6
+
+-- "D outside 1 to 10^11": what is disbursed or recovered at once, and so a pool
+abbrev pub poolLimit : ℕ
+poolLimit = 10 ^ 11
+
+-- "Disburse leaves at least 2×10^9 in the account"
+abbrev pub reserve : ℕ
+reserve = 2 * 10 ^ 9
+
+-- "a column total over 10^8"
+abbrev pub columnLimit : ℕ
+columnLimit = 10 ^ 8
+
+-- ---- Sheets
+
+-- "at most 16,384 bytes"
+abbrev pub sheetBytes : ℕ
+sheetBytes = 16384
+
+-- "The output buffer is 65,536 bytes"
+abbrev pub awardSheetBytes : ℕ
+awardSheetBytes = 65536
+
+-- "A number has at most 13 digits"
+abbrev pub digitLimit : ℕ
+digitLimit = 13

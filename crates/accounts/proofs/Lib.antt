@@ -1,2 +1,0 @@
--- Laws about deposit, withdraw and rent.
-pub mod Cleared

@@ -1,0 +1,2 @@
+-- Laws about deposit and withdraw.
+pub mod Cleared

@@ -1,0 +1,51 @@
+use Prim.Native.Nat.{_+_}
+use native.Mathlib.Omega.{arith}
+use borrow.Author.Tests.{leb-true}
+use Rattle.market.specs.Limits.{moneyLimit}
+use Rattle.market.specs.Books.{heldOf}
+use borrow.Author.Needs.{needs}
+use Rattle.funding.proofs.parts.credited_bidder.Statement.{statement}
+use Rattle.funding.proofs.parts.credited_bidder.Tie as tie
+
+enum-told : tie.Need-enum-told
+enum-told c = search needs
+
+add-t7 : tie.Need-add-t7
+add-t7 c =
+    let a = c .before .before .before .before .before .before .args in
+    let room = leb-true (heldOf (a .bidder) + a .amount .0) moneyLimit (rw (c .before .before .enum-told .given .1) at (c .before .before .before .before .before .before .pre)) in
+    record { fits = omega arith }
+
+with-cash-requires : tie.Need-with-cash-requires
+with-cash-requires c κs = search needs
+
+enum-told-2 : tie.Need-enum-told-2
+enum-told-2 c = search needs
+
+add-t9 : tie.Need-add-t9
+add-t9 c =
+    let a = c .before .before .before .before .before .before .args in
+    let room = leb-true (a .bidder .letter .0 + a .amount .0) moneyLimit (rw (c .before .before .enum-told2 .given .1) at (c .before .before .before .before .before .before .pre)) in
+    record { fits = omega arith }
+
+with-letter-requires : tie.Need-with-letter-requires
+with-letter-requires c κs = search needs
+
+returns : tie.Need-returns
+returns c = rw (c .before .before .before .enum-told .given .1) (c .with-cash .ensures)
+
+returns-2 : tie.Need-returns-2
+returns-2 c = rw (c .before .before .before .enum-told2 .given .1) (c .with-letter .ensures)
+
+pub credited-bidder-spec : {M : Type 1} → statement M
+credited-bidder-spec =
+    tie.close
+    (tie.spec
+    enum-told
+    add-t7
+    with-cash-requires
+    enum-told-2
+    add-t9
+    with-letter-requires
+    returns
+    returns-2)

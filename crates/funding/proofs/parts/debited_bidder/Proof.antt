@@ -1,0 +1,43 @@
+use native.Mathlib.Omega.{arith}
+use borrow.Author.Needs.{needs}
+use Rattle.funding.proofs.parts.debited_bidder.Statement.{statement}
+use Rattle.funding.proofs.parts.debited_bidder.Tie as tie
+
+enum-told : tie.Need-enum-told
+enum-told c = search needs
+
+sub-t7 : tie.Need-sub-t7
+sub-t7 c = rw (c .before .before .enum-told .given .1) at (c .before .before .before .before .before .before .pre .1)
+
+with-cash-requires : tie.Need-with-cash-requires
+with-cash-requires c κs = search needs
+
+enum-told-2 : tie.Need-enum-told-2
+enum-told-2 c = search needs
+
+sub-t9 : tie.Need-sub-t9
+sub-t9 c =
+    let most = rw (c .before .before .enum-told2 .given .1) at (c .before .before .before .before .before .before .pre .1) in
+    omega arith
+
+with-letter-requires : tie.Need-with-letter-requires
+with-letter-requires c κs = search needs
+
+returns : tie.Need-returns
+returns c = rw (c .before .before .before .enum-told .given .1) (c .with-cash .ensures)
+
+returns-2 : tie.Need-returns-2
+returns-2 c = rw (c .before .before .before .enum-told2 .given .1) (c .with-letter .ensures)
+
+pub debited-bidder-spec : {M : Type 1} → statement M
+debited-bidder-spec =
+    tie.close
+    (tie.spec
+    enum-told
+    sub-t7
+    with-cash-requires
+    enum-told-2
+    sub-t9
+    with-letter-requires
+    returns
+    returns-2)

@@ -1,0 +1,35 @@
+use Rattle.market.proofs.Tests.{leb-left}
+use Rattle.market.specs.Limits.{moneyLimit}
+use Rattle.market.specs.Books.{heldOf}
+use borrow.Author.Needs.{needs}
+use Rattle.funding.proofs.parts.has_room.Statement.{statement}
+use Rattle.funding.proofs.parts.has_room.Tie as tie
+
+enum-told : tie.Need-enum-told
+enum-told c = search needs
+
+add-result : tie.Need-add-result
+add-result c = search needs
+
+sub-result : tie.Need-sub-result
+sub-result c = search needs
+
+enum-told-2 : tie.Need-enum-told-2
+enum-told-2 c = search needs
+
+sub-result-2 : tie.Need-sub-result-2
+sub-result-2 c = search needs
+
+returns : tie.Need-returns
+returns c =
+    let a = c .before .before .before .before .before .before .before .before .args in
+    rw (c .before .before .before .enum-told .given .1) (leb-left (heldOf (a .bidder)) (a .amount .0) moneyLimit (c .before .before .before .before .before .before .before .before .pre .held))
+
+returns-2 : tie.Need-returns-2
+returns-2 c =
+    let a = c .before .before .before .before .before .before .before .args in
+    rw (c .before .before .enum-told2 .given .1) (leb-left (a .bidder .letter .0) (a .amount .0) moneyLimit (c .before .before .before .before .before .before .before .pre .letter))
+
+pub has-room-spec : {M : Type 1} → statement M
+has-room-spec =
+    tie.close (tie.spec enum-told add-result sub-result enum-told-2 sub-result-2 returns returns-2)

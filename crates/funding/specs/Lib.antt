@@ -1,0 +1,4 @@
+-- The rules of deposit and withdraw.
+pub mod Funding
+pub mod Deposit
+pub mod Withdraw

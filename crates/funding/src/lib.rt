@@ -1,0 +1,53 @@
+// Deposit and withdraw: cash and letters of credit, in and out.
+mod parts;
+
+use market::answer::Answer;
+use market::answer::Outcome;
+use market::answer::Refusal;
+use market::book::Book;
+use market::units::Cents;
+ghost use mathlib.Core.Path.{_≡_};
+ghost use Rattle.funding.specs.Deposit as deposits;
+ghost use Rattle.funding.specs.Withdraw as withdrawals;
+
+// What is deposited or withdrawn: cash, or a letter of credit.
+pub enum Funds {
+    Cash,
+    Letter,
+}
+
+// A deposit of cash, or of a letter of credit.
+pub fn deposit(book: Book, bidder: u32, to: Funds, amount: Cents) -> Outcome
+    ensures { λ r. ⌜ r ≡ deposits.deposit book bidder to amount ⌝ }
+{
+    let number = parts::deposit_refusal(book, bidder, to, amount);
+    if number != Refusal::NONE {
+        return Outcome {
+            answer: Answer::Refused(number),
+            book,
+        };
+    }
+    let next = parts::credited_bidder(parts::bidder_of(book, bidder), to, amount);
+    Outcome {
+        answer: Answer::Done,
+        book: parts::with_bidder(book, bidder, next),
+    }
+}
+
+// A withdrawal of cash, or of the letter less what is held of it.
+pub fn withdraw(book: Book, bidder: u32, from: Funds, amount: Cents) -> Outcome
+    ensures { λ r. ⌜ r ≡ withdrawals.withdraw book bidder from amount ⌝ }
+{
+    let number = parts::withdraw_refusal(book, bidder, from, amount);
+    if number != Refusal::NONE {
+        return Outcome {
+            answer: Answer::Refused(number),
+            book,
+        };
+    }
+    let next = parts::debited_bidder(parts::bidder_of(book, bidder), from, amount);
+    Outcome {
+        answer: Answer::Done,
+        book: parts::with_bidder(book, bidder, next),
+    }
+}

@@ -1,0 +1,154 @@
+// The parts of deposit and withdraw.
+use crate::Funds;
+use market::answer::Refusal;
+use market::book::Bidder;
+use market::book::Book;
+use market::engine::Engine;
+use market::units::Cents;
+ghost use mathlib.Core.Path.{_≡_};
+ghost use mathlib.Core.Bool.{true};
+ghost use Prim.Native.Nat.{_≤_, _<_};
+ghost use Rattle.market.specs.Answers.{firstOf};
+ghost use Rattle.market.specs.Books.{bidderOf, withBidder, withCash, withLetter};
+ghost use Rattle.market.specs.Limits.{bidderLimit};
+ghost use Rattle.market.proofs.SoundLaws.{BidderBounds};
+ghost use Rattle.funding.specs.Deposit.{hasRoom, depositRefusals, credited};
+ghost use Rattle.funding.specs.Funding.{fundingRefusals};
+ghost use Rattle.funding.specs.Withdraw.{withdrawable, withdrawRefusals, debited};
+
+// The bidder of a number.
+pub fn bidder_of(book: Book, bidder: u32) -> Bidder
+    requires { ⌜ bidder < bidderLimit ⌝ }
+    ensures { λ r. ⌜ r ≡ bidderOf book bidder ⌝ }
+{
+    let at = bidder as usize;
+    book.bidders[at]
+}
+
+// The book with another bidder at a number.
+pub fn with_bidder(book: Book, bidder: u32, next: Bidder) -> Book
+    requires { ⌜ bidder < bidderLimit ⌝ }
+    ensures { λ r. ⌜ r ≡ withBidder book bidder next ⌝ }
+{
+    let at = bidder as usize;
+    let mut after = book;
+    after.bidders[at] = next;
+    after
+}
+
+fn with_cash(bidder: Bidder, cash: Cents) -> Bidder
+    ensures { λ r. ⌜ r ≡ withCash bidder (cash .0) ⌝ }
+{
+    let mut next = bidder;
+    next.cash = cash;
+    next
+}
+
+fn with_letter(bidder: Bidder, letter: Cents) -> Bidder
+    ensures { λ r. ⌜ r ≡ withLetter bidder (letter .0) ⌝ }
+{
+    let mut next = bidder;
+    next.letter = letter;
+    next
+}
+
+// The refusals that deposit and withdraw have in common; 0 where there is none.
+pub fn common_refusal(book: Book, bidder: u32, amount: Cents) -> u32
+    ensures { λ r. ⌜ r ≡ firstOf (fundingRefusals book bidder amount) ⌝ }
+{
+    if !soundness::sound_book(book) {
+        return Refusal::UNSOUND;
+    }
+    if bidder as usize >= Engine::BIDDERS {
+        return Refusal::BIDDER;
+    }
+    if amount.0 == 0 {
+        return Refusal::AMOUNT;
+    }
+    Refusal::NONE
+}
+
+fn has_room(bidder: Bidder, to: Funds, amount: Cents) -> bool
+    requires { ⌜ BidderBounds bidder ⌝ }
+    ensures { λ r. ⌜ r ≡ hasRoom bidder to amount ⌝ }
+{
+    let cash = bidder.cash;
+    let applied = bidder.applied;
+    let letter = bidder.letter;
+    match to {
+        Funds::Cash => amount.0 <= Engine::MONEY_LIMIT - (cash.0 + applied.0),
+        Funds::Letter => amount.0 <= Engine::MONEY_LIMIT - letter.0,
+    }
+}
+
+// The refusal of a deposit, 0 where there is none.
+pub fn deposit_refusal(book: Book, bidder: u32, to: Funds, amount: Cents) -> u32
+    ensures { λ r. ⌜ r ≡ firstOf (depositRefusals book bidder to amount) ⌝ }
+{
+    let number = common_refusal(book, bidder, amount);
+    if number != Refusal::NONE {
+        return number;
+    }
+    if has_room(bidder_of(book, bidder), to, amount) {
+        Refusal::NONE
+    } else {
+        Refusal::AMOUNT
+    }
+}
+
+// The bidder with a deposit.
+pub fn credited_bidder(bidder: Bidder, to: Funds, amount: Cents) -> Bidder
+    requires { ⌜ hasRoom bidder to amount ≡ true ⌝ }
+    ensures { λ r. ⌜ r ≡ credited bidder to amount ⌝ }
+{
+    let cash = bidder.cash;
+    let letter = bidder.letter;
+    match to {
+        Funds::Cash => with_cash(bidder, Cents(cash.0 + amount.0)),
+        Funds::Letter => with_letter(bidder, Cents(letter.0 + amount.0)),
+    }
+}
+
+// What a bidder may withdraw.
+fn withdrawable_of(bidder: Bidder, from: Funds) -> Cents
+    requires { ⌜ BidderBounds bidder ⌝ }
+    ensures { λ r. ⌜ r .0 ≡ withdrawable bidder from ⌝ }
+{
+    let cash = bidder.cash;
+    let letter = bidder.letter;
+    let hold = bidder.hold;
+    match from {
+        Funds::Cash => cash,
+        Funds::Letter => Cents(letter.0 - hold.0),
+    }
+}
+
+// The refusal of a withdrawal, 0 where there is none.
+pub fn withdraw_refusal(book: Book, bidder: u32, from: Funds, amount: Cents) -> u32
+    ensures { λ r. ⌜ r ≡ firstOf (withdrawRefusals book bidder from amount) ⌝ }
+{
+    let number = common_refusal(book, bidder, amount);
+    if number != Refusal::NONE {
+        return number;
+    }
+    let most = withdrawable_of(bidder_of(book, bidder), from);
+    if amount.0 <= most.0 {
+        Refusal::NONE
+    } else {
+        Refusal::WITHDRAWAL
+    }
+}
+
+// The bidder with a withdrawal.
+pub fn debited_bidder(bidder: Bidder, from: Funds, amount: Cents) -> Bidder
+    requires { ⌜ BidderBounds bidder ⌝ }
+    requires { ⌜ amount .0 ≤ withdrawable bidder from ⌝ }
+    ensures { λ r. ⌜ r ≡ debited bidder from amount ⌝ }
+{
+    let cash = bidder.cash;
+    let letter = bidder.letter;
+    match from {
+        Funds::Cash => with_cash(bidder, Cents(cash.0 - amount.0)),
+        Funds::Letter => with_letter(bidder, Cents(letter.0 - amount.0)),
+    }
+}

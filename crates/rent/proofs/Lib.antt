@@ -1,0 +1,2 @@
+-- Laws about rent.
+pub mod Cleared

@@ -1,0 +1,33 @@
+use mathlib.Core.Path.{sym, _∙_, ap}
+use Rattle.rent.proofs.Cleared.{rent-cleared}
+use Rattle.market.proofs.Tables.{refuses, takes}
+use Rattle.market.specs.Answers.{answered}
+use Rattle.market.specs.Books.{withAccount}
+use Rattle.rent.specs.Rent.{accountAfter, rentRefusals, rent}
+use borrow.Author.Needs.{needs}
+use Rattle.rent.proofs.rent.Statement.{statement}
+use Rattle.rent.proofs.rent.Tie as tie
+
+refusal-requires : tie.Need-refusal-requires
+refusal-requires c κs = search needs
+
+returns : tie.Need-returns
+unfolding rent
+returns c =
+    let a = c .before .before .args in
+    refuses (a .book) (rentRefusals (a .book) (a .amount)) (answered (withAccount (a .book) (accountAfter (a .book) (a .amount)))) (c .before .refusal .result) (c .before .refusal .ensures) (c .if1 .taken)
+
+with-rent-requires : tie.Need-with-rent-requires
+with-rent-requires c κs =
+    let a = c .before .before .args in
+    rent-cleared (a .book) (a .amount) (sym (c .before .refusal .ensures) ∙ c .if1 .left)
+
+returns-2 : tie.Need-returns-2
+unfolding rent
+returns-2 c =
+    let a = c .before .before .before .args in
+    ap answered (c .with-rent .ensures)
+    ∙ takes (a .book) (rentRefusals (a .book) (a .amount)) (answered (withAccount (a .book) (accountAfter (a .book) (a .amount)))) (c .before .before .refusal .result) (c .before .before .refusal .ensures) (c .before .if1 .left)
+
+pub rent-spec : {M : Type 1} → statement M
+rent-spec = tie.close (tie.spec refusal-requires returns with-rent-requires returns-2)

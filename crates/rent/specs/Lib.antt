@@ -1,0 +1,2 @@
+-- The rule of rent.
+pub mod Rent

@@ -1,0 +1,62 @@
+// What the programs of this repository print with: fields on standard output, each after the last, lines ended by byte 10.
+use libc::STDOUT_FILENO;
+use market::answer::Outcome;
+use market::book::Bidder;
+use market::units::Balance;
+use market::units::Cents;
+
+// Text as it stands.
+pub fn text(bytes: &[u8]) {
+    io::write_all(STDOUT_FILENO, bytes);
+}
+
+// A space and a number.
+pub fn number(n: u64) {
+    text(b" ");
+    io::print_decimal(STDOUT_FILENO, n);
+}
+
+// A space and an amount.
+pub fn amount(a: Cents) {
+    number(a.0);
+}
+
+// A space and a balance with its sign; a balance past the account's limit is not written out.
+pub fn signed(account: Balance) {
+    if !balance::sound(account) {
+        text(b" beyond");
+        return;
+    }
+    text(b" ");
+    if balance::below_zero(account) {
+        text(b"-");
+    }
+    let size = balance::magnitude(account);
+    io::print_decimal(STDOUT_FILENO, size.0);
+}
+
+// A bidder: cash, applied, letter, hold, owed, step.
+pub fn bidder(x: Bidder) {
+    let cash = x.cash;
+    let applied = x.applied;
+    let letter = x.letter;
+    let hold = x.hold;
+    let owed = x.owed;
+    amount(cash);
+    amount(applied);
+    amount(letter);
+    amount(hold);
+    amount(owed);
+    number(x.step as u64);
+}
+
+// The number of an outcome: the refusal's, 0 where the call is answered.
+pub fn answer(outcome: Outcome) {
+    let said = outcome.answer;
+    number(said.number() as u64);
+}
+
+// The end of a line.
+pub fn line() {
+    text(b"\n");
+}

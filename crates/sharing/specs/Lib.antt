@@ -1,0 +1,2 @@
+-- The rules by which a pool is shared.
+pub mod Sharing
