@@ -2,8 +2,9 @@
 use mathlib.Core.Path.{_≡_, refl, ap₂}
 use mathlib.Core.Bool.{Bool, true, _&&_}
 use mathlib.Core.List.{List, [], _∷_, _++_, map}
-use Prim.Native.Nat.{ℕ, zero, suc}
-use lib.ListN.{getD, take, set, replicate}
+use Prim.Native.Nat.{ℕ, zero, suc, _<_}
+use native.Mathlib.Omega.{arith}
+use lib.ListN.{length, getD, take, set, replicate}
 use Rattle.market.proofs.Tests.{left-true, right-true}
 use Rattle.market.specs.Books.{every}
 
@@ -16,6 +17,12 @@ module _ {A : Type 0} (test : A → Bool) where
   every-at-any [] i d h e = e
   every-at-any (x ∷ l) zero d h e = left-true (test x) (every test l) h
   every-at-any (x ∷ l) (suc i) d h e = every-at-any l i d (right-true (test x) (every test l) h) e
+
+  -- and at any place within the list
+  pub every-within : (l : List A) (i : ℕ) (d : A) → i < length l → every test l ≡ true → test (getD l i d) ≡ true
+  every-within [] i d below h = absurd (let no-place : ⊥ = omega arith in no-place)
+  every-within (x ∷ l) zero d below h = left-true (test x) (every test l) h
+  every-within (x ∷ l) (suc i) d below h = every-within l i d (omega arith) (right-true (test x) (every test l) h)
 
   pub every-append : (l r : List A) → every test l ≡ true → every test r ≡ true → every test (l ++ r) ≡ true
   every-append [] r h k = k

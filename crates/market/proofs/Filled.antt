@@ -7,17 +7,18 @@ use native.Mathlib.Omega.{arith}
 use lib.ListN.{length, getD, take, set, replicate, length-map}
 use lib.Seq.{length-take-le, take-suc, set-at}
 
+-- the images of a list with one element more
+pub map-snoc : {A B : Type 0} (f : A → B) (l : List A) (a : A) → map f (l ++ (a ∷ [])) ≡ map f l ++ (f a ∷ [])
+map-snoc f [] a = refl
+map-snoc f (x ∷ l) a = ap (f x ∷_) (map-snoc f l a)
+
 module _ {A B : Type 0} (f : A → B) (xs : List A) (n : ℕ) (blank : B) where
   abbrev pub filled : ℕ → List B
   filled i = map f (take i xs) ++ replicate (n - i) blank
 
   module _ (i : ℕ) (d : A) (below : i < n) (within : n ≤ length xs) where
-    map-snoc : (l : List A) (a : A) → map f (l ++ (a ∷ [])) ≡ map f l ++ (f a ∷ [])
-    map-snoc [] a = refl
-    map-snoc (x ∷ l) a = ap (f x ∷_) (map-snoc l a)
-
     front : map f (take (i + 1) xs) ≡ map f (take i xs) ++ (f (getD xs i d) ∷ [])
-    front = rw (add-one, take-suc xs i d (omega arith)) (map-snoc (take i xs) (getD xs i d))
+    front = rw (add-one, take-suc xs i d (omega arith)) (map-snoc f (take i xs) (getD xs i d))
 
     rest : replicate (n - i) blank ≡ blank ∷ replicate (n - (i + 1)) blank
     rest = ap (λ (k : ℕ). replicate k blank) (let e : n - i ≡ suc (n - (i + 1)) = omega arith in e)

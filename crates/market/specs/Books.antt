@@ -12,6 +12,7 @@ use Rattle.market.specs.declared.book.Direction.the-variants.{Export}
 use Rattle.market.specs.declared.book.Path.{Path}
 use Rattle.market.specs.declared.units.Balance.{Balance}
 use Rattle.market.specs.declared.units.Cents.{Cents}
+use Rattle.market.specs.declared.units.Day.{Day}
 use Rattle.market.specs.declared.units.Megawatts.{Megawatts}
 
 -- a test holds of every element of a list
@@ -30,6 +31,9 @@ cents n = record { 0 = n }
 
 abbrev pub megawatts : ℕ → Megawatts
 megawatts n = record { 0 = n }
+
+abbrev pub dayNumber : ℕ → Day
+dayNumber n = record { 0 = n }
 
 abbrev pub balance : ℤ → Balance
 balance z = record { 0 = z }

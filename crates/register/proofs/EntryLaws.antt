@@ -1,0 +1,156 @@
+-- Laws about what the register's loops do, one entry at a time.
+use mathlib.Core.Path.{_≡_, refl, sym, _∙_, ap, ap₂}
+use mathlib.Core.Bool.{Bool, true, false, cond, _&&_, _||_}
+use mathlib.Core.List.{List, [], _∷_, _++_, map}
+use Prim.Native.Nat.{ℕ, _+_, _≤_, _<_}
+use native.Mathlib.Numerals.{add-one}
+use native.Mathlib.Omega.{arith}
+use lib.Dec.{leb, ltb, eqb}
+use lib.ListN.{length, getD, length-map}
+use borrow.Author.Tests.{leb-true, ltb-true}
+use Rattle.market.proofs.Every.{every-within}
+use Rattle.market.proofs.Filled.{map-snoc}
+use Rattle.market.proofs.Tests.{left-true, right-true}
+use Rattle.market.specs.Books.{every}
+use Rattle.market.specs.Limits.{bidderLimit, quantityLimit, pending, issued}
+use Rattle.market.specs.Sound.{soundPeriod}
+use Rattle.market.specs.declared.book.Entry.{Entry}
+use Rattle.market.specs.declared.book.Period.{Period}
+use Rattle.register.proofs.WordLaws.{put-appends, entry-past, entries-length, entries-at, length-snoc}
+use Rattle.register.specs.Entries.{soundEntry, goes, without, sharesDay, countedOf, outstanding}
+use Rattle.register.specs.Words.{entryAt, entriesOf, putAt, written}
+use Rattle.register.specs.declared.Removal.{Removal}
+
+-- one entry more is counted
+pub entries-more : (words : List ℕ) (i : ℕ) → entriesOf words (i + 1) ≡ entriesOf words i ++ (entryAt words i ∷ [])
+entries-more words i = rw add-one
+
+-- an entry put past what is written, at the place that its count says
+pub put-next : (words : List ℕ) (es : List Entry) (k : ℕ) (e : Entry) → length es ≡ k → putAt (written words es) k e ≡ written words (es ++ (e ∷ []))
+put-next words es k e h = ap (λ (n : ℕ). putAt (written words es) n e) (sym h) ∙ put-appends words es e
+
+-- ---- entries changed one by one
+
+module _ (f : Entry → Entry) (words₀ : List ℕ) (i : ℕ) where
+  pub changed-length : length (map f (entriesOf words₀ i)) ≡ i
+  changed-length = length-map (entriesOf words₀ i) f ∙ entries-length words₀ i
+
+  -- what was read at the next place, changed and put back there
+  pub change-next : (words : List ℕ) (e : Entry) → words ≡ written words₀ (map f (entriesOf words₀ i)) → e ≡ f (entryAt words i) → putAt words i e ≡ written words₀ (map f (entriesOf words₀ (i + 1)))
+  change-next words e now is =
+      let es = entriesOf words₀ i in
+      let past : entryAt words i ≡ entryAt words₀ i =
+      ap (λ (w : List ℕ). entryAt w i) now ∙ entry-past words₀ (map f es) i (omega (arith, changed-length))
+      in
+      ap₂ (λ (w : List ℕ) (x : Entry). putAt w i x) now (is ∙ ap f past)
+      ∙ put-next words₀ (map f es) i (f (entryAt words₀ i)) changed-length
+      ∙ ap (written words₀) (sym (map-snoc f es (entryAt words₀ i)) ∙ ap (map f) (sym (entries-more words₀ i)))
+
+-- ---- entries removed
+
+pub without-snoc : (what : Removal) (es : List Entry) (e : Entry) → without what (es ++ (e ∷ [])) ≡ cond (goes what e) (without what es) (without what es ++ (e ∷ []))
+without-snoc what [] e = refl
+without-snoc what (x ∷ es) e = go (goes what x) (goes what e) (without-snoc what es e)
+  where
+    go : (s t : Bool) {r : List Entry} → r ≡ cond t (without what es) (without what es ++ (e ∷ [])) → cond s r (x ∷ r) ≡ cond t (cond s (without what es) (x ∷ without what es)) (cond s (without what es) (x ∷ without what es) ++ (e ∷ []))
+    go true true h = h
+    go true false h = h
+    go false true h = ap (x ∷_) h
+    go false false h = ap (x ∷_) h
+
+pub without-length : (what : Removal) (es : List Entry) → length (without what es) ≤ length es
+without-length what [] = omega arith
+without-length what (x ∷ es) = go (goes what x) (without-length what es)
+  where
+    go : (s : Bool) → length (without what es) ≤ length es → length (cond s (without what es) (x ∷ without what es)) ≤ length (x ∷ es)
+    go true h = omega arith
+    go false h = omega arith
+
+-- the entry at `i` is looked at, where `kept` entries have stayed before it
+module _ (what : Removal) (words₀ words : List ℕ) (i kept : ℕ) (now : words ≡ written words₀ (without what (entriesOf words₀ i))) (long : kept ≡ length (without what (entriesOf words₀ i))) where
+  pub kept-within : kept ≤ i
+  kept-within = omega (arith, without-length what (entriesOf words₀ i), entries-length words₀ i)
+
+  -- the next entry, read past what has been written, is the one that was there at first
+  next-entry : entryAt words i ≡ entryAt words₀ i
+  next-entry = ap (λ (w : List ℕ). entryAt w i) now ∙ entry-past words₀ (without what (entriesOf words₀ i)) i (omega (arith, kept-within))
+
+  next-without : without what (entriesOf words₀ (i + 1)) ≡ cond (goes what (entryAt words i)) (without what (entriesOf words₀ i)) (without what (entriesOf words₀ i) ++ (entryAt words i ∷ []))
+  next-without =
+      ap (without what) (entries-more words₀ i)
+      ∙ without-snoc what (entriesOf words₀ i) (entryAt words₀ i)
+      ∙ ap (λ (e : Entry). cond (goes what e) (without what (entriesOf words₀ i)) (without what (entriesOf words₀ i) ++ (e ∷ []))) (sym next-entry)
+
+  pub kept-count : cond (goes what (entryAt words i)) kept (kept + 1) ≡ length (without what (entriesOf words₀ (i + 1)))
+  kept-count = go (goes what (entryAt words i)) ∙ ap length (sym next-without)
+    where
+      es : List Entry
+      es = without what (entriesOf words₀ i)
+
+      go : (t : Bool) → cond t kept (kept + 1) ≡ length (cond t es (es ++ (entryAt words i ∷ [])))
+      go true = long
+      go false = ap (λ (n : ℕ). n + 1) long ∙ sym (length-snoc es (entryAt words i))
+
+  pub kept-words : cond (goes what (entryAt words i)) words (putAt words kept (entryAt words i)) ≡ written words₀ (without what (entriesOf words₀ (i + 1)))
+  kept-words = go (goes what (entryAt words i)) ∙ ap (written words₀) (sym next-without)
+    where
+      es : List Entry
+      es = without what (entriesOf words₀ i)
+
+      go : (t : Bool) → cond t words (putAt words kept (entryAt words i)) ≡ written words₀ (cond t es (es ++ (entryAt words i ∷ [])))
+      go true = now
+      go false = ap (λ (w : List ℕ). putAt w kept (entryAt words i)) now ∙ put-next words₀ es kept (entryAt words i) (sym long)
+
+-- ---- megawatts summed
+
+pub outstanding-snoc : (path : ℕ) (period : Period) (es : List Entry) (e : Entry) → outstanding path period (es ++ (e ∷ [])) ≡ outstanding path period es + countedOf path period e
+outstanding-snoc path period [] e = omega arith
+outstanding-snoc path period (x ∷ es) e = omega (arith, outstanding-snoc path period es e)
+
+pub outstanding-more : (words : List ℕ) (i path : ℕ) (period : Period) → outstanding path period (entriesOf words (i + 1)) ≡ outstanding path period (entriesOf words i) + countedOf path period (entryAt words i)
+outstanding-more words i path period =
+    ap (outstanding path period) (entries-more words i) ∙ outstanding-snoc path period (entriesOf words i) (entryAt words i)
+
+-- the bounds of a sound entry
+pub record EntryBounds (paths : ℕ) (e : Entry) : Type 0 where
+  pub bidder : e .bidder < bidderLimit
+  pub path : e .path < paths
+  pub some : 1 ≤ e .quantity .0
+  pub quantity : e .quantity .0 ≤ quantityLimit
+  pub period : soundPeriod (e .period) ≡ true
+
+pub entry-bounds : (paths : ℕ) (e : Entry) → soundEntry paths e ≡ true → EntryBounds paths e
+entry-bounds paths e h =
+    let bidder = ltb (e .bidder) bidderLimit in
+    let path = ltb (e .path) paths in
+    let some = leb 1 (e .quantity .0) in
+    let quantity = leb (e .quantity .0) quantityLimit in
+    let period = soundPeriod (e .period) in
+    let state = eqb (e .state) pending || eqb (e .state) issued in
+    let h₅ = left-true (bidder && path && some && quantity && period) state h in
+    let h₄ = left-true (bidder && path && some && quantity) period h₅ in
+    let h₃ = left-true (bidder && path && some) quantity h₄ in
+    let h₂ = left-true (bidder && path) some h₃ in
+    record {
+      bidder = ltb-true (e .bidder) bidderLimit (left-true bidder path h₂);
+      path = ltb-true (e .path) paths (right-true bidder path h₂);
+      some = leb-true 1 (e .quantity .0) (right-true (bidder && path) some h₃);
+      quantity = leb-true (e .quantity .0) quantityLimit (right-true (bidder && path && some) quantity h₄);
+      period = right-true (bidder && path && some && quantity) period h₅;
+    }
+
+counted-within : (path : ℕ) (period : Period) (e : Entry) → countedOf path period e ≤ e .quantity .0
+counted-within path period e = go (eqb (e .path) path && sharesDay (e .period) period)
+  where
+    go : (t : Bool) → cond t (e .quantity .0) 0 ≤ e .quantity .0
+    go true = omega arith
+    go false = omega arith
+
+-- what an entry of a sound register counts for is within the limit of a quantity
+pub counted-bound : (paths : ℕ) (words : List ℕ) (n i path : ℕ) (period : Period) → every (soundEntry paths) (entriesOf words n) ≡ true → i < n → countedOf path period (entryAt words i) ≤ quantityLimit
+counted-bound paths words n i path period h below =
+    let es = entriesOf words n in
+    let e = entryAt words i in
+    let is : getD es i e ≡ e = entries-at words n i e below in
+    let tested : soundEntry paths (getD es i e) ≡ true = every-within (soundEntry paths) es i e (omega (arith, entries-length words n)) h in
+    omega (arith, counted-within path period e, entry-bounds paths e (ap (soundEntry paths) (sym is) ∙ tested) .quantity)

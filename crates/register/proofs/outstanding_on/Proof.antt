@@ -1,0 +1,76 @@
+use Rattle.register.specs.Words.{entriesOf}
+use Rattle.register.specs.Entries.{countedOf, outstanding}
+use Rattle.market.specs.Books.{megawatts}
+use Prim.Native.Nat.{ℕ, _≤_, _-_, _*_}
+use borrow.Author.Needs.{needs}
+use mathlib.Core.Path.{_≡_, refl, _∙_, ap}
+use native.Mathlib.Omega.{arith}
+use Rattle.market.specs.Limits.{quantityLimit}
+use Rattle.register.proofs.EntryLaws.{outstanding-more, counted-bound}
+use Rattle.register.proofs.outstanding_on.Statement.{statement}
+use Rattle.register.proofs.outstanding_on.Tie as tie
+
+abbrev Inv-loop : tie.InvT-loop
+Inv-loop words count paths path period sum₀ i₀ sum i =
+    (i ≤ count) × ((sum ≤ i * quantityLimit) × (sum ≡ outstanding path period (entriesOf words i)))
+
+abbrev μ-loop : tie.MeasureT-loop
+μ-loop words count paths path period sum₀ i₀ sum i = count - i
+
+loop-holds : tie.Need-loop-holds Inv-loop μ-loop
+loop-holds c = (search needs, (search needs, refl))
+
+read-requires : tie.Need-read-requires Inv-loop μ-loop
+read-requires c κs = search needs
+
+counted-requires : tie.Need-counted-requires Inv-loop μ-loop
+counted-requires c κs = search needs
+
+add-sum : tie.Need-add-sum Inv-loop μ-loop
+add-sum c =
+    let a = c .before .before .before .before .before .args in
+    let at = c .before .before .before .loop in
+    let w = a .words .now in
+    let is = c .counted .ensures ∙ ap (countedOf (a .path) (a .period)) (c .before .read .ensures) in
+    record { fits = omega (arith, is, counted-bound (a .paths) w (a .count) (at .i) (a .path) (a .period) (c .before .before .before .before .before .pre .1 .1) (search needs)) }
+
+add-i : tie.Need-add-i Inv-loop μ-loop
+add-i c = search needs
+
+loop-less : tie.Need-loop-less Inv-loop μ-loop
+loop-less c = search needs
+
+loop-again : tie.Need-loop-again Inv-loop μ-loop
+loop-again c =
+    let a = c .before .before .before .before .before .args in
+    let at = c .before .before .before .loop in
+    let w = a .words .now in
+    let is = c .counted .ensures ∙ ap (countedOf (a .path) (a .period)) (c .before .read .ensures) in (
+      search needs,
+      (
+        omega (arith, is, counted-bound (a .paths) w (a .count) (at .i) (a .path) (a .period) (c .before .before .before .before .before .pre .1 .1) (search needs)),
+        omega (arith, is, at .inv .1 .1, outstanding-more w (at .i) (a .path) (a .period)),
+      ),
+    )
+
+returns : tie.Need-returns Inv-loop μ-loop
+returns c =
+    let a = c .before .before .before .args in
+    let all : c .before .loop .i ≡ a .count = omega arith in
+    ap megawatts
+    (c .before .loop .inv .1 .1 ∙ ap (λ (n : ℕ). outstanding (a .path) (a .period) (entriesOf (a .words .now) n)) all)
+
+pub outstanding-on-spec : {M : Type 1} → statement M
+outstanding-on-spec =
+    tie.close
+    (tie.spec
+    Inv-loop
+    μ-loop
+    loop-holds
+    read-requires
+    counted-requires
+    add-sum
+    add-i
+    loop-less
+    loop-again
+    returns)

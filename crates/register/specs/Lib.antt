@@ -1,0 +1,3 @@
+-- The rules of the register: its entries, and the words that hold them.
+pub mod Entries
+pub mod Words

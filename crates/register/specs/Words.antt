@@ -1,0 +1,45 @@
+-- Document 01, "The register, lent, is 6,144 32-bit words, up to 1,024 entries of six: bidder, path, MW, first day, last day,
+-- state (1 pending, 2 issued). No call writes at or past the count it ends with."
+use mathlib.Core.List.{List, [], _∷_, _++_}
+use Prim.Native.Nat.{ℕ, zero, suc, _+_, _*_}
+use lib.ListN.{length, getD, take, drop}
+use Rattle.market.specs.Books.{megawatts, dayNumber}
+use Rattle.market.specs.Limits.{entryWords}
+use Rattle.market.specs.declared.book.Entry.{Entry}
+
+-- the entry at a place
+abbrev pub entryAt : List ℕ → ℕ → Entry
+entryAt words i =
+    record {
+      bidder = getD words (i * entryWords) 0;
+      path = getD words (i * entryWords + 1) 0;
+      quantity = megawatts (getD words (i * entryWords + 2) 0);
+      period =
+          record {
+            first = dayNumber (getD words (i * entryWords + 3) 0);
+            last = dayNumber (getD words (i * entryWords + 4) 0);
+          };
+      state = getD words (i * entryWords + 5) 0;
+    }
+
+-- the first entries, as many as are counted
+abbrev pub entriesOf : List ℕ → ℕ → List Entry
+entriesOf words zero = []
+entriesOf words (suc n) = entriesOf words n ++ (entryAt words n ∷ [])
+
+-- the six words of an entry, and the words of a list of entries
+abbrev pub wordsOf : Entry → List ℕ
+wordsOf e =
+    e .bidder ∷ e .path ∷ e .quantity .0 ∷ e .period .first .0 ∷ e .period .last .0 ∷ e .state ∷ []
+
+abbrev pub allWords : List Entry → List ℕ
+allWords [] = []
+allWords (e ∷ es) = wordsOf e ++ allWords es
+
+-- the words with an entry put at a place
+abbrev pub putAt : List ℕ → ℕ → Entry → List ℕ
+putAt words i e = take (i * entryWords) words ++ wordsOf e ++ drop (i * entryWords + entryWords) words
+
+-- entries written from the front on, and every word at or past their count as it was
+abbrev pub written : List ℕ → List Entry → List ℕ
+written words es = allWords es ++ drop (length es * entryWords) words

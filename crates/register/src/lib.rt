@@ -1,0 +1,197 @@
+// The register's entries in the lent words. Nothing above this crate knows how an entry lies in them.
+use market::book::Entry;
+use market::book::Period;
+use market::engine::Engine;
+use market::units::Day;
+use market::units::Megawatts;
+ghost use mathlib.Core.Path.{_≡_};
+ghost use mathlib.Core.Bool.{true, cond};
+ghost use mathlib.Core.List.{map, _++_, _∷_, []};
+ghost use Prim.Native.Nat.{_+_, _*_, _≤_, _<_};
+ghost use lib.Dec.{ltb};
+ghost use lib.ListN.{length};
+ghost use Rattle.market.specs.Books.{every, megawatts};
+ghost use Rattle.market.specs.Limits.{entryLimit, entryWords};
+ghost use Rattle.register.specs.Entries.{soundEntry, issuedTo, goes, without, countedOf, outstanding};
+ghost use Rattle.register.specs.Words.{entryAt, entriesOf, putAt, written};
+
+// Which entries are to go: a bidder's pending ones, or issued ones that ended before a day.
+pub enum Removal {
+    PendingOf(u32),
+    EndedBefore(Day),
+}
+
+// The entry at a place.
+pub fn read(words: &[u32], i: usize) -> Entry
+    requires { ⌜ (i + 1) * entryWords ≤ length (now words) ⌝ }
+    ensures { λ r. ⌜ r ≡ entryAt (now (words .entry)) i ⌝ }
+{
+    let at = i * Engine::ENTRY_WORDS;
+    Entry {
+        bidder: words[at],
+        path: words[at + 1],
+        quantity: Megawatts(words[at + 2]),
+        period: Period {
+            first: Day(words[at + 3]),
+            last: Day(words[at + 4]),
+        },
+        state: words[at + 5],
+    }
+}
+
+// An entry put at a place.
+fn put(words: &mut [u32], i: usize, entry: Entry)
+    requires { ⌜ (i + 1) * entryWords ≤ length (now words) ⌝ }
+    ensures { λ r. ⌜ now (words .exit) ≡ putAt (now (words .entry)) i entry ⌝ }
+{
+    let at = i * Engine::ENTRY_WORDS;
+    let quantity = entry.quantity;
+    let period = entry.period;
+    let first = period.first;
+    let last = period.last;
+    words[at] = entry.bidder;
+    words[at + 1] = entry.path;
+    words[at + 2] = quantity.0;
+    words[at + 3] = first.0;
+    words[at + 4] = last.0;
+    words[at + 5] = entry.state;
+}
+
+// The entry past the counted ones, added to them.
+pub fn append(words: &mut [u32], count: usize, entry: Entry)
+    requires { ⌜ (count + 1) * entryWords ≤ length (now words) ⌝ }
+    ensures { λ r. ⌜ now (words .exit) ≡ written (now (words .entry)) (entriesOf (now (words .entry)) count ++ (entry ∷ [])) ⌝ }
+{
+    put(words, count, entry);
+}
+
+fn sound_entry(paths: usize, entry: Entry) -> bool
+    ensures { λ r. ⌜ r ≡ soundEntry paths entry ⌝ }
+{
+    let quantity = entry.quantity;
+    let period = entry.period;
+    let state = entry.state;
+    let days = soundness::sound_period(period);
+    (within(entry.bidder, Engine::BIDDERS))
+        & (within(entry.path, paths))
+        & (1 <= quantity.0)
+        & (quantity.0 <= Engine::QUANTITY_LIMIT)
+        & days
+        & ((state == Engine::PENDING) | (state == Engine::ISSUED))
+}
+
+fn within(number: u32, count: usize) -> bool
+    ensures { λ r. ⌜ r ≡ ltb number count ⌝ }
+{
+    (number as usize) < count
+}
+
+// Whether each counted entry is sound for a book with so many paths.
+pub fn sound_entries(words: &[u32], count: usize, paths: usize) -> bool
+    requires { ⌜ count * entryWords ≤ length (now words) ⌝ }
+    ensures { λ r. ⌜ r ≡ every (soundEntry paths) (entriesOf (now (words .entry)) count) ⌝ }
+{
+    for i in 0..count {
+        if !sound_entry(paths, read(words, i)) {
+            return false;
+        }
+    }
+    true
+}
+
+fn issued_to(bidder: u32, entry: Entry) -> Entry
+    ensures { λ r. ⌜ r ≡ issuedTo bidder entry ⌝ }
+{
+    let mut next = entry;
+    if entry.bidder == bidder {
+        next.state = Engine::ISSUED;
+        return next;
+    }
+    next
+}
+
+// A bidder's entries are issued.
+pub fn issue(words: &mut [u32], count: usize, bidder: u32)
+    requires { ⌜ count * entryWords ≤ length (now words) ⌝ }
+    ensures { λ r. ⌜ now (words .exit) ≡ written (now (words .entry)) (map (issuedTo bidder) (entriesOf (now (words .entry)) count)) ⌝ }
+{
+    for i in 0..count {
+        let entry = issued_to(bidder, read(words, i));
+        put(words, i, entry);
+    }
+}
+
+fn is_gone(what: Removal, entry: Entry) -> bool
+    ensures { λ r. ⌜ r ≡ goes what entry ⌝ }
+{
+    let period = entry.period;
+    let last = period.last;
+    match what {
+        Removal::PendingOf(bidder) => (entry.bidder == bidder) & (entry.state == Engine::PENDING),
+        Removal::EndedBefore(day) => (entry.state == Engine::ISSUED) & (last.0 < day.0),
+    }
+}
+
+// One entry more is looked at: it is put at the end of those that stay, unless it goes. Returns how many stay.
+fn keep(words: &mut [u32], i: usize, kept: usize, what: Removal) -> usize
+    requires { ⌜ (i + 1) * entryWords ≤ length (now words) ⌝ }
+    requires { ⌜ kept ≤ i ⌝ }
+    ensures count { λ r. ⌜ r ≡ cond (goes what (entryAt (now (words .entry)) i)) kept (kept + 1) ⌝ }
+    ensures words { λ r. ⌜ now (words .exit) ≡ cond (goes what (entryAt (now (words .entry)) i)) (now (words .entry)) (putAt (now (words .entry)) kept (entryAt (now (words .entry)) i)) ⌝ }
+{
+    let entry = read(words, i);
+    if is_gone(what, entry) {
+        return kept;
+    }
+    put(words, kept, entry);
+    kept + 1
+}
+
+// The entries that are to go are removed, and the others keep their order. Returns how many stay.
+pub fn remove(words: &mut [u32], count: usize, what: Removal) -> usize
+    requires { ⌜ count * entryWords ≤ length (now words) ⌝ }
+    ensures kept { λ r. ⌜ r ≡ length (without what (entriesOf (now (words .entry)) count)) ⌝ }
+    ensures words { λ r. ⌜ now (words .exit) ≡ written (now (words .entry)) (without what (entriesOf (now (words .entry)) count)) ⌝ }
+{
+    let mut kept: usize = 0;
+    for i in 0..count {
+        kept = keep(words, i, kept, what);
+    }
+    kept
+}
+
+fn counted(path: u32, period: Period, entry: Entry) -> u32
+    ensures { λ r. ⌜ r ≡ countedOf path period entry ⌝ }
+{
+    let quantity = entry.quantity;
+    let days = entry.period;
+    let first = days.first;
+    let last = days.last;
+    let new_first = period.first;
+    let new_last = period.last;
+    if (entry.path == path) & ((first.0 <= new_last.0) & (new_first.0 <= last.0)) {
+        return quantity.0;
+    }
+    0
+}
+
+// The megawatts of a path whose period shares a day with another.
+pub fn outstanding_on(
+    words: &[u32],
+    count: usize,
+    paths: usize,
+    path: u32,
+    period: Period,
+) -> Megawatts
+    requires { ⌜ count * entryWords ≤ length (now words) ⌝ }
+    requires { ⌜ count ≤ entryLimit ⌝ }
+    requires { ⌜ every (soundEntry paths) (entriesOf (now words) count) ≡ true ⌝ }
+    ensures { λ r. ⌜ r ≡ megawatts (outstanding path period (entriesOf (now (words .entry)) count)) ⌝ }
+{
+    let mut sum: u32 = 0;
+    for i in 0..count {
+        let more = counted(path, period, read(words, i));
+        sum += more;
+    }
+    Megawatts(sum)
+}
