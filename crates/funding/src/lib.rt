@@ -27,10 +27,10 @@ pub fn deposit(book: Book, bidder: u32, to: Funds, amount: Cents) -> Outcome
             book,
         };
     }
-    let next = parts::credited_bidder(parts::bidder_of(book, bidder), to, amount);
+    let next = parts::credited_bidder(book.bidder(bidder), to, amount);
     Outcome {
         answer: Answer::Done,
-        book: parts::with_bidder(book, bidder, next),
+        book: book.with_bidder(bidder, next),
     }
 }
 
@@ -45,9 +45,9 @@ pub fn withdraw(book: Book, bidder: u32, from: Funds, amount: Cents) -> Outcome
             book,
         };
     }
-    let next = parts::debited_bidder(parts::bidder_of(book, bidder), from, amount);
+    let next = parts::debited_bidder(book.bidder(bidder), from, amount);
     Outcome {
         answer: Answer::Done,
-        book: parts::with_bidder(book, bidder, next),
+        book: book.with_bidder(bidder, next),
     }
 }

@@ -7,34 +7,13 @@ use market::engine::Engine;
 use market::units::Cents;
 ghost use mathlib.Core.Path.{_≡_};
 ghost use mathlib.Core.Bool.{true};
-ghost use Prim.Native.Nat.{_≤_, _<_};
+ghost use Prim.Native.Nat.{_≤_};
 ghost use Rattle.market.specs.Answers.{firstOf};
-ghost use Rattle.market.specs.Books.{bidderOf, withBidder, withCash, withLetter};
-ghost use Rattle.market.specs.Limits.{bidderLimit};
+ghost use Rattle.market.specs.Books.{withCash, withLetter};
 ghost use Rattle.market.proofs.SoundLaws.{BidderBounds};
 ghost use Rattle.funding.specs.Deposit.{hasRoom, depositRefusals, credited};
 ghost use Rattle.funding.specs.Funding.{fundingRefusals};
 ghost use Rattle.funding.specs.Withdraw.{withdrawable, withdrawRefusals, debited};
-
-// The bidder of a number.
-pub fn bidder_of(book: Book, bidder: u32) -> Bidder
-    requires { ⌜ bidder < bidderLimit ⌝ }
-    ensures { λ r. ⌜ r ≡ bidderOf book bidder ⌝ }
-{
-    let at = bidder as usize;
-    book.bidders[at]
-}
-
-// The book with another bidder at a number.
-pub fn with_bidder(book: Book, bidder: u32, next: Bidder) -> Book
-    requires { ⌜ bidder < bidderLimit ⌝ }
-    ensures { λ r. ⌜ r ≡ withBidder book bidder next ⌝ }
-{
-    let at = bidder as usize;
-    let mut after = book;
-    after.bidders[at] = next;
-    after
-}
 
 fn with_cash(bidder: Bidder, cash: Cents) -> Bidder
     ensures { λ r. ⌜ r ≡ withCash bidder (cash .0) ⌝ }
@@ -89,7 +68,7 @@ pub fn deposit_refusal(book: Book, bidder: u32, to: Funds, amount: Cents) -> u32
     if number != Refusal::NONE {
         return number;
     }
-    if has_room(bidder_of(book, bidder), to, amount) {
+    if has_room(book.bidder(bidder), to, amount) {
         Refusal::NONE
     } else {
         Refusal::AMOUNT
@@ -131,7 +110,7 @@ pub fn withdraw_refusal(book: Book, bidder: u32, from: Funds, amount: Cents) -> 
     if number != Refusal::NONE {
         return number;
     }
-    let most = withdrawable_of(bidder_of(book, bidder), from);
+    let most = withdrawable_of(book.bidder(bidder), from);
     if amount.0 <= most.0 {
         Refusal::NONE
     } else {

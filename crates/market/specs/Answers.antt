@@ -3,7 +3,7 @@ use mathlib.Core.Bool.{Bool, cond}
 use mathlib.Core.List.{List, [], _∷_}
 use Prim.Native.Nat.{ℕ, zero, suc}
 use Rattle.market.specs.declared.answer.Answer.{Answer}
-use Rattle.market.specs.declared.answer.Answer.the-variants.{Refused, Done}
+use Rattle.market.specs.declared.answer.Answer.the-variants.{Refused, Done, Drawn}
 use Rattle.market.specs.declared.answer.Outcome.{Outcome}
 use Rattle.market.specs.declared.book.Book.{Book}
 
@@ -26,11 +26,13 @@ firstOf (row ∷ rows) = cond (row .0) (row .1) (firstOf rows)
 abbrev pub answerNumber : Answer → ℕ
 answerNumber (Refused number) = number
 answerNumber Done = 0
+answerNumber (Drawn draw) = 0
 
--- the numbers that an answer carries besides
+-- the numbers that an answer carries besides: default's "carries the letter draw"
 abbrev pub answerValues : Answer → List ℕ
 answerValues (Refused number) = []
 answerValues Done = []
+answerValues (Drawn draw) = draw .0 ∷ []
 
 -- "A refusal returns its number; nothing lent or held differs afterwards."
 abbrev pub refused : Book → ℕ → Outcome
@@ -40,7 +42,16 @@ refused book number = record { answer = Refused number; book = book }
 abbrev pub answered : Book → Outcome
 answered book = record { answer = Done; book = book }
 
+-- a call that answers a draw on a letter
+abbrev pub drawn : ℕ → Book → Outcome
+drawn draw book = record { answer = Drawn (record { 0 = draw }); book = book }
+
 -- a call: refused where a row of its table holds, else answered with its effect on the book
 abbrev pub decided : Book → ℕ → Outcome → Outcome
 decided book zero taken = taken
 decided book (suc n) taken = refused book (suc n)
+
+-- the same of what is lent: as it was where the call is refused
+abbrev pub decidedList : List ℕ → ℕ → List ℕ → List ℕ
+decidedList before zero taken = taken
+decidedList before (suc n) taken = before

@@ -75,7 +75,7 @@ abbrev pub withLetter : Bidder → ℕ → Bidder
 withLetter x n =
     record { cash = x .cash; applied = x .applied; letter = cents n; hold = x .hold; owed = x .owed; step = x .step }
 
--- a book with another bidder at a number, or another account
+-- a book with another bidder at a number, another count of entries, or another account
 abbrev pub withBidder : Book → ℕ → Bidder → Book
 withBidder b i x =
     record {
@@ -84,6 +84,17 @@ withBidder b i x =
       bidders = set (b .bidders) i x;
       account = b .account;
       entries = b .entries;
+      stage = b .stage;
+    }
+
+abbrev pub withEntries : Book → ℕ → Book
+withEntries b n =
+    record {
+      paths = b .paths;
+      «path_count» = b .«path_count»;
+      bidders = b .bidders;
+      account = b .account;
+      entries = n;
       stage = b .stage;
     }
 

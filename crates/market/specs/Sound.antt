@@ -1,5 +1,5 @@
 -- Document 01, "A sound book has ..": each part of that sentence as a test, in its order, and the whole.
-use mathlib.Core.Bool.{Bool, true, _&&_, _||_}
+use mathlib.Core.Bool.{Bool, true, false, _&&_, _||_}
 use Prim.Native.Nat.{ℕ}
 use lib.Dec.{leb, eqb}
 use lib.IntN.{ℤ, pos, negℤ}
@@ -32,6 +32,11 @@ soundPeriod p = leb (p .first .0) (p .last .0) && leb (p .last .0) dayLimit
 abbrev pub soundStage : Stage → Bool
 soundStage Idle = true
 soundStage (Open kind round period) = soundRound kind round && soundPeriod period
+
+-- "The stage is idle, or open"
+abbrev pub isIdle : Stage → Bool
+isIdle Idle = true
+isIdle (Open kind round period) = false
 
 -- the open auction's next round, and 0 where the stage is idle
 abbrev pub roundOf : Stage → ℕ

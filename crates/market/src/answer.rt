@@ -1,5 +1,6 @@
 // Refusals and answers.
 use crate::book::Book;
+use crate::units::Cents;
 ghost use mathlib.Core.Path.{_≡_};
 ghost use Rattle.market.specs.Answers.{answerNumber};
 
@@ -19,16 +20,29 @@ impl Refusal {
     pub const AMOUNT: u32 = 11;
 
     pub const WITHDRAWAL: u32 = 12;
+
+    pub const PAYMENT: u32 = 13;
     // The auction desk's.
+    pub const STAGE: u32 = 20;
+
+    pub const DAYS: u32 = 21;
+
+    pub const NOTHING_DUE: u32 = 24;
+
     pub const QUANTITY: u32 = 25;
     // Settlement's.
     pub const ACCOUNT: u32 = 31;
+
+    pub const TOTAL: u32 = 32;
+
+    pub const COLUMNS: u32 = 33;
 }
 
-// What a call answers: the refusal's number, or that it is done.
+// What a call answers: the refusal's number, that it is done, or the draw on a letter of credit.
 pub enum Answer {
     Refused(u32),
     Done,
+    Drawn(Cents),
 }
 
 impl Answer {
@@ -39,6 +53,7 @@ impl Answer {
         match self {
             Answer::Refused(number) => number,
             Answer::Done => Refusal::NONE,
+            Answer::Drawn(_draw) => Refusal::NONE,
         }
     }
 }

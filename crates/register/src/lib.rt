@@ -1,4 +1,6 @@
 // The register's entries in the lent words. Nothing above this crate knows how an entry lies in them.
+use market::answer::Refusal;
+use market::book::Book;
 use market::book::Entry;
 use market::book::Period;
 use market::engine::Engine;
@@ -10,9 +12,11 @@ ghost use mathlib.Core.List.{map, _++_, _∷_, []};
 ghost use Prim.Native.Nat.{_+_, _*_, _≤_, _<_};
 ghost use lib.Dec.{ltb};
 ghost use lib.ListN.{length};
+ghost use Rattle.market.specs.Answers.{firstOf};
 ghost use Rattle.market.specs.Books.{every, megawatts};
 ghost use Rattle.market.specs.Limits.{entryLimit, entryWords};
 ghost use Rattle.register.specs.Entries.{soundEntry, issuedTo, goes, without, countedOf, outstanding};
+ghost use Rattle.register.specs.Refusals.{registerRefusals};
 ghost use Rattle.register.specs.Words.{entryAt, entriesOf, putAt, written};
 
 // Which entries are to go: a bidder's pending ones, or issued ones that ended before a day.
@@ -194,4 +198,22 @@ pub fn outstanding_on(
         sum += more;
     }
     Megawatts(sum)
+}
+
+// The refusals 1 and 2 of a call that is lent the register; 0 where there is none.
+pub fn refusal(book: Book, words: &[u32]) -> u32
+    ensures { λ r. ⌜ r ≡ firstOf (registerRefusals book (now (words .entry))) ⌝ }
+{
+    if words.len() < Engine::REGISTER_WORDS {
+        return Refusal::SHORT_BUFFER;
+    }
+    if !soundness::sound_book(book) {
+        return Refusal::UNSOUND;
+    }
+    let count = book.entries;
+    let paths = book.path_count;
+    if !sound_entries(words, count, paths) {
+        return Refusal::UNSOUND;
+    }
+    Refusal::NONE
 }

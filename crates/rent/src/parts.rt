@@ -40,7 +40,5 @@ pub fn with_rent(book: Book, amount: Cents) -> Book
 {
     let account = book.account;
     let after = balance::plus(account, amount);
-    let mut next = book;
-    next.account = after;
-    next
+    book.with_account(after)
 }

@@ -12,7 +12,7 @@ ghost use lib.Dec.{leb};
 ghost use lib.ListN.{take};
 ghost use Rattle.market.specs.Books.{every, noValue};
 ghost use Rattle.market.specs.Limits.{pathLimit};
-ghost use Rattle.market.specs.Sound.{soundRound, soundPeriod, soundStage, roundOf, soundPath, soundBidder, soundBook};
+ghost use Rattle.market.specs.Sound.{soundRound, soundPeriod, soundStage, isIdle, roundOf, soundPath, soundBidder, soundBook};
 
 // Whether a sum is within a limit; the sum itself may be too large for a word.
 fn sum_within(a: u64, b: u64, limit: u64) -> bool
@@ -62,6 +62,13 @@ fn sound_stage(stage: Stage) -> bool
             period,
         } => sound_round(kind, round) & sound_period(period),
     }
+}
+
+// Whether the stage is idle.
+pub fn is_idle(stage: Stage) -> bool
+    ensures { λ r. ⌜ r ≡ isIdle stage ⌝ }
+{
+    if let Stage::Idle = stage { true } else { false }
 }
 
 // The open auction's next round, and 0 where the stage is idle.

@@ -18,8 +18,8 @@ returns c =
     let a = c .before .before .args in
     refuses (a .book) (depositRefusals (a .book) (a .bidder) (a .to) (a .amount)) (answered (withBidder (a .book) (a .bidder) (credited (bidderOf (a .book) (a .bidder)) (a .to) (a .amount)))) (c .before .deposit-refusal .result) (c .before .deposit-refusal .ensures) (c .if1 .taken)
 
-bidder-of-requires : tie.Need-bidder-of-requires
-bidder-of-requires c κs =
+bidder-requires : tie.Need-bidder-requires
+bidder-requires c κs =
     let a = c .before .before .args in
     deposit-cleared (a .book) (a .bidder) (a .to) (a .amount) (sym (c .before .deposit-refusal .ensures) ∙ c .if1 .left) .0 .number
 
@@ -27,7 +27,7 @@ credited-bidder-requires : tie.Need-credited-bidder-requires
 credited-bidder-requires c κs =
     let a = c .before .before .before .args in
     let clear = deposit-cleared (a .book) (a .bidder) (a .to) (a .amount) (sym (c .before .before .deposit-refusal .ensures) ∙ c .before .if1 .left) in
-    rw (c .bidder-of .ensures) (clear .1)
+    rw (c .bidder .ensures) (clear .1)
 
 with-bidder-requires : tie.Need-with-bidder-requires
 with-bidder-requires c κs =
@@ -38,7 +38,7 @@ returns-2 : tie.Need-returns-2
 unfolding deposit
 returns-2 c =
     let a = c .before .before .before .before .before .args in
-    let next = c .before .credited-bidder .ensures ∙ ap (λ (x : Bidder). credited x (a .to) (a .amount)) (c .before .before .bidder-of .ensures) in
+    let next = c .before .credited-bidder .ensures ∙ ap (λ (x : Bidder). credited x (a .to) (a .amount)) (c .before .before .bidder .ensures) in
     ap answered (c .with-bidder .ensures ∙ ap (withBidder (a .book) (a .bidder)) next)
     ∙ takes (a .book) (depositRefusals (a .book) (a .bidder) (a .to) (a .amount)) (answered (withBidder (a .book) (a .bidder) (credited (bidderOf (a .book) (a .bidder)) (a .to) (a .amount)))) (c .before .before .before .before .deposit-refusal .result) (c .before .before .before .before .deposit-refusal .ensures) (c .before .before .before .if1 .left)
 
@@ -48,7 +48,7 @@ deposit-spec =
     (tie.spec
     deposit-refusal-requires
     returns
-    bidder-of-requires
+    bidder-requires
     credited-bidder-requires
     with-bidder-requires
     returns-2)

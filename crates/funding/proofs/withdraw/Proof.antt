@@ -18,8 +18,8 @@ returns c =
     let a = c .before .before .args in
     refuses (a .book) (withdrawRefusals (a .book) (a .bidder) (a .from) (a .amount)) (answered (withBidder (a .book) (a .bidder) (debited (bidderOf (a .book) (a .bidder)) (a .from) (a .amount)))) (c .before .withdraw-refusal .result) (c .before .withdraw-refusal .ensures) (c .if1 .taken)
 
-bidder-of-requires : tie.Need-bidder-of-requires
-bidder-of-requires c κs =
+bidder-requires : tie.Need-bidder-requires
+bidder-requires c κs =
     let a = c .before .before .args in
     withdraw-cleared (a .book) (a .bidder) (a .from) (a .amount) (sym (c .before .withdraw-refusal .ensures) ∙ c .if1 .left) .0 .number
 
@@ -27,7 +27,7 @@ debited-bidder-requires : tie.Need-debited-bidder-requires
 debited-bidder-requires c κs =
     let a = c .before .before .before .args in
     let clear = withdraw-cleared (a .book) (a .bidder) (a .from) (a .amount) (sym (c .before .before .withdraw-refusal .ensures) ∙ c .before .if1 .left) in
-    rw (c .bidder-of .ensures) (clear .0 .bounds, clear .1)
+    rw (c .bidder .ensures) (clear .0 .bounds, clear .1)
 
 with-bidder-requires : tie.Need-with-bidder-requires
 with-bidder-requires c κs =
@@ -38,7 +38,7 @@ returns-2 : tie.Need-returns-2
 unfolding withdraw
 returns-2 c =
     let a = c .before .before .before .before .before .args in
-    let next = c .before .debited-bidder .ensures ∙ ap (λ (x : Bidder). debited x (a .from) (a .amount)) (c .before .before .bidder-of .ensures) in
+    let next = c .before .debited-bidder .ensures ∙ ap (λ (x : Bidder). debited x (a .from) (a .amount)) (c .before .before .bidder .ensures) in
     ap answered (c .with-bidder .ensures ∙ ap (withBidder (a .book) (a .bidder)) next)
     ∙ takes (a .book) (withdrawRefusals (a .book) (a .bidder) (a .from) (a .amount)) (answered (withBidder (a .book) (a .bidder) (debited (bidderOf (a .book) (a .bidder)) (a .from) (a .amount)))) (c .before .before .before .before .withdraw-refusal .result) (c .before .before .before .before .withdraw-refusal .ensures) (c .before .before .before .if1 .left)
 
@@ -48,7 +48,7 @@ withdraw-spec =
     (tie.spec
     withdraw-refusal-requires
     returns
-    bidder-of-requires
+    bidder-requires
     debited-bidder-requires
     with-bidder-requires
     returns-2)

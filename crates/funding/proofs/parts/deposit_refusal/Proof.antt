@@ -22,15 +22,15 @@ returns c =
     is
     ∙ sym (first-stands (fundingRefusals (a .book) (a .bidder) (a .amount)) ((not (hasRoom (bidderOf (a .book) (a .bidder)) (a .to) (a .amount)) gives 11) ∷ []) (λ z. c .if1 .taken (is ∙ z)))
 
-bidder-of-requires : tie.Need-bidder-of-requires
-bidder-of-requires c κs =
+bidder-requires : tie.Need-bidder-requires
+bidder-requires c κs =
     let a = c .before .before .args in
     funding-cleared (a .book) (a .bidder) (a .amount) (sym (c .before .common-refusal .ensures) ∙ c .if1 .left) .number
 
 has-room-requires : tie.Need-has-room-requires
 has-room-requires c κs =
     let a = c .before .before .before .args in
-    rw (c .bidder-of .ensures)
+    rw (c .bidder .ensures)
     (funding-cleared (a .book) (a .bidder) (a .amount) (sym (c .before .before .common-refusal .ensures) ∙ c .before .if1 .left) .bounds)
 
 returns-2 : tie.Need-returns-2
@@ -38,7 +38,7 @@ returns-2 c =
     let a = c .before .before .before .before .before .args in
     let none = sym (c .before .before .before .before .common-refusal .ensures) ∙ c .before .before .before .if1 .left in
     let room =
-    ap (λ (x : Bidder). hasRoom x (a .to) (a .amount)) (sym (c .before .before .bidder-of .ensures))
+    ap (λ (x : Bidder). hasRoom x (a .to) (a .amount)) (sym (c .before .before .bidder .ensures))
     ∙ sym (c .before .has-room .ensures)
     ∙ c .if2 .taken
     in
@@ -51,7 +51,7 @@ returns-3 c =
     let a = c .before .before .before .before .before .args in
     let none = sym (c .before .before .before .before .common-refusal .ensures) ∙ c .before .before .before .if1 .left in
     let room =
-    ap (λ (x : Bidder). hasRoom x (a .to) (a .amount)) (sym (c .before .before .bidder-of .ensures))
+    ap (λ (x : Bidder). hasRoom x (a .to) (a .amount)) (sym (c .before .before .bidder .ensures))
     ∙ sym (c .before .has-room .ensures)
     ∙ c .if2 .left
     in
@@ -65,7 +65,7 @@ deposit-refusal-spec =
     (tie.spec
     common-refusal-requires
     returns
-    bidder-of-requires
+    bidder-requires
     has-room-requires
     returns-2
     returns-3)

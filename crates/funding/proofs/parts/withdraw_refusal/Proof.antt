@@ -25,15 +25,15 @@ returns c =
     is
     ∙ sym (first-stands (fundingRefusals (a .book) (a .bidder) (a .amount)) ((not (leb (a .amount .0) (withdrawable (bidderOf (a .book) (a .bidder)) (a .from))) gives 12) ∷ []) (λ z. c .if1 .taken (is ∙ z)))
 
-bidder-of-requires : tie.Need-bidder-of-requires
-bidder-of-requires c κs =
+bidder-requires : tie.Need-bidder-requires
+bidder-requires c κs =
     let a = c .before .before .args in
     funding-cleared (a .book) (a .bidder) (a .amount) (sym (c .before .common-refusal .ensures) ∙ c .if1 .left) .number
 
 withdrawable-of-requires : tie.Need-withdrawable-of-requires
 withdrawable-of-requires c κs =
     let a = c .before .before .before .args in
-    rw (c .bidder-of .ensures)
+    rw (c .bidder .ensures)
     (funding-cleared (a .book) (a .bidder) (a .amount) (sym (c .before .before .common-refusal .ensures) ∙ c .before .if1 .left) .bounds)
 
 returns-2 : tie.Need-returns-2
@@ -41,7 +41,7 @@ returns-2 c =
     let a = c .before .before .before .before .before .before .before .args in
     let none = sym (c .before .before .before .before .before .before .common-refusal .ensures) ∙ c .before .before .before .before .before .if1 .left in
     let most =
-    ap (λ (x : Bidder). withdrawable x (a .from)) (sym (c .before .before .before .before .bidder-of .ensures))
+    ap (λ (x : Bidder). withdrawable x (a .from)) (sym (c .before .before .before .before .bidder .ensures))
     ∙ sym (c .before .before .before .withdrawable-of .ensures)
     in
     sym
@@ -54,7 +54,7 @@ returns-3 c =
     let a = c .before .before .before .before .before .before .before .args in
     let none = sym (c .before .before .before .before .before .before .common-refusal .ensures) ∙ c .before .before .before .before .before .if1 .left in
     let most =
-    ap (λ (x : Bidder). withdrawable x (a .from)) (sym (c .before .before .before .before .bidder-of .ensures))
+    ap (λ (x : Bidder). withdrawable x (a .from)) (sym (c .before .before .before .before .bidder .ensures))
     ∙ sym (c .before .before .before .withdrawable-of .ensures)
     in
     sym
@@ -68,7 +68,7 @@ withdraw-refusal-spec =
     (tie.spec
     common-refusal-requires
     returns
-    bidder-of-requires
+    bidder-requires
     withdrawable-of-requires
     returns-2
     returns-3)

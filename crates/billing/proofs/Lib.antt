@@ -1,0 +1,2 @@
+-- Laws about pay and default.
+pub mod Cleared

@@ -1,0 +1,62 @@
+use mathlib.Core.Path.{sym, _∙_, ap}
+use mathlib.Core.List.{map}
+use Rattle.market.proofs.Tables.{refuses, takes, list-stays, list-changes}
+use Rattle.market.specs.Answers.{answered}
+use Rattle.register.specs.Entries.{issuedTo}
+use Rattle.register.specs.Refusals.{countedEntries}
+use Rattle.register.specs.Words.{written}
+use Rattle.billing.proofs.Cleared.{pay-cleared}
+use Rattle.billing.specs.Pay.{payTable, bookPaid, pay, payWords}
+use borrow.Author.Needs.{needs}
+use Rattle.billing.proofs.pay.Statement.{statement}
+use Rattle.billing.proofs.pay.Tie as tie
+
+refusal-requires : tie.Need-refusal-requires
+refusal-requires c κs = search needs
+
+same-length : tie.Need-same-length
+same-length c = search needs
+
+returns : tie.Need-returns
+unfolding pay payWords
+returns c =
+    let a = c .before .before .before .before .args in
+    let n = c .before .refusal .result in
+    let is = c .before .refusal .ensures in
+    (refuses (a .book) (payTable (a .book) (a .words .now) (a .bidder) (a .amount)) (answered (bookPaid (a .book) (a .bidder))) n is (c .if1 .taken), list-stays (a .words .now) (payTable (a .book) (a .words .now) (a .bidder) (a .amount)) (written (a .words .now) (map (issuedTo (a .bidder)) (countedEntries (a .book) (a .words .now)))) n is (c .if1 .taken))
+
+issue-requires : tie.Need-issue-requires
+issue-requires c κs =
+    let a = c .before .before .before .before .before .args in
+    pay-cleared (a .book) (a .words .now) (a .bidder) (a .amount) (sym (c .before .before .refusal .ensures) ∙ c .before .if1 .left) .0 .room
+
+book-paid-requires : tie.Need-book-paid-requires
+book-paid-requires c κs =
+    let a = c .before .before .before .before .before .before .before .before .args in
+    let clear = pay-cleared (a .book) (a .words .now) (a .bidder) (a .amount) (sym (c .before .before .before .before .before .refusal .ensures) ∙ c .before .before .before .before .if1 .left) in
+    (clear .0 .sound, clear .1)
+
+same-length-2 : tie.Need-same-length-2
+same-length-2 c = search needs
+
+returns-2 : tie.Need-returns-2
+unfolding pay payWords
+returns-2 c =
+    let a = c .before .before .before .before .before .before .before .before .before .args in
+    let n = c .before .before .before .before .before .before .refusal .result in
+    let is = c .before .before .before .before .before .before .refusal .ensures in (
+      ap answered (c .book-paid .ensures) ∙ takes (a .book) (payTable (a .book) (a .words .now) (a .bidder) (a .amount)) (answered (bookPaid (a .book) (a .bidder))) n is (c .before .before .before .before .before .if1 .left),
+      c .before .before .before .issue .ensures ∙ list-changes (a .words .now) (payTable (a .book) (a .words .now) (a .bidder) (a .amount)) (written (a .words .now) (map (issuedTo (a .bidder)) (countedEntries (a .book) (a .words .now)))) n is (c .before .before .before .before .before .if1 .left),
+    )
+
+pub pay-spec : {M : Type 1} → statement M
+pay-spec =
+    tie.close
+    (tie.spec
+    refusal-requires
+    same-length
+    returns
+    issue-requires
+    book-paid-requires
+    same-length-2
+    returns-2)

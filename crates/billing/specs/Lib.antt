@@ -1,0 +1,3 @@
+-- The rules of pay and default.
+pub mod Pay
+pub mod Default

@@ -1,0 +1,103 @@
+// The parts of pay.
+use market::answer::Refusal;
+use market::book::Bidder;
+use market::book::Book;
+use market::engine::Engine;
+use market::units::Cents;
+ghost use mathlib.Core.Path.{_≡_};
+ghost use mathlib.Core.Bool.{true};
+ghost use Prim.Native.Nat.{_-_, _<_};
+ghost use Rattle.market.proofs.SoundLaws.{BidderBounds};
+ghost use Rattle.market.specs.Answers.{firstOf};
+ghost use Rattle.market.specs.Books.{cents, valueOf};
+ghost use Rattle.market.specs.Limits.{bidderLimit};
+ghost use Rattle.market.specs.Sound.{soundBook};
+ghost use Rattle.billing.specs.Pay.{payRefusals, payTable, paid, bookPaid};
+
+// A bidder's value.
+pub fn value(bidder: Bidder) -> Cents
+    requires { ⌜ BidderBounds bidder ⌝ }
+    ensures { λ r. ⌜ r ≡ cents (valueOf bidder) ⌝ }
+{
+    let applied = bidder.applied;
+    let owed = bidder.owed;
+    Cents(applied.0 + owed.0)
+}
+
+// The refusals of pay after 1 and 2.
+fn own_refusal(book: Book, bidder: u32, amount: Cents) -> u32
+    requires { ⌜ soundBook book ≡ true ⌝ }
+    ensures { λ r. ⌜ r ≡ firstOf (payRefusals book bidder amount) ⌝ }
+{
+    let stage = book.stage;
+    if !soundness::is_idle(stage) {
+        return Refusal::STAGE;
+    }
+    if bidder as usize >= Engine::BIDDERS {
+        return Refusal::BIDDER;
+    }
+    let payer = book.bidder(bidder);
+    let owed = payer.owed;
+    if amount.0 != owed.0 {
+        return Refusal::PAYMENT;
+    }
+    if soundness::no_value(payer) {
+        return Refusal::NOTHING_DUE;
+    }
+    let account = book.account;
+    if !balance::sound(balance::plus(account, value(payer))) {
+        return Refusal::ACCOUNT;
+    }
+    Refusal::NONE
+}
+
+// The refusal of pay, 0 where there is none.
+pub fn refusal(book: Book, words: &[u32], bidder: u32, amount: Cents) -> u32
+    ensures { λ r. ⌜ r ≡ firstOf (payTable book (now (words .entry)) bidder amount) ⌝ }
+{
+    let number = register::refusal(book, words);
+    if number != Refusal::NONE {
+        return number;
+    }
+    own_refusal(book, bidder, amount)
+}
+
+// A bidder that has paid.
+fn paid_bidder(bidder: Bidder) -> Bidder
+    ensures { λ r. ⌜ r ≡ paid bidder ⌝ }
+{
+    let cash = bidder.cash;
+    let letter = bidder.letter;
+    let step = bidder.step;
+    Bidder {
+        cash,
+        applied: Cents(0),
+        letter,
+        hold: Cents(0),
+        owed: Cents(0),
+        step: fallen(step),
+    }
+}
+
+// A step that has fallen by one if above 0.
+fn fallen(step: u32) -> u32
+    ensures { λ r. ⌜ r ≡ step - 1 ⌝ }
+{
+    if step == 0 {
+        return 0;
+    }
+    step - 1
+}
+
+// The book with a bidder's payment.
+pub fn book_paid(book: Book, bidder: u32) -> Book
+    requires { ⌜ soundBook book ≡ true ⌝ }
+    requires { ⌜ bidder < bidderLimit ⌝ }
+    ensures { λ r. ⌜ r ≡ bookPaid book bidder ⌝ }
+{
+    let payer = book.bidder(bidder);
+    let account = book.account;
+    let after = balance::plus(account, value(payer));
+    book.with_bidder(bidder, paid_bidder(payer))
+        .with_account(after)
+}

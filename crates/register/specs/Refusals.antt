@@ -1,0 +1,29 @@
+-- The refusals of every call that is lent the register, before its own: "1 a lent buffer shorter than stated; 2 a book or a
+-- counted register entry that is not sound".
+use mathlib.Core.Bool.{Bool, not, _&&_}
+use mathlib.Core.List.{List, [], _∷_}
+use Prim.Native.Nat.{ℕ}
+use lib.Dec.{ltb}
+use lib.ListN.{length}
+use Rattle.market.specs.Answers.{Row, _gives_}
+use Rattle.market.specs.Books.{every}
+use Rattle.market.specs.Limits.{registerWords}
+use Rattle.market.specs.Sound.{soundBook}
+use Rattle.market.specs.declared.book.Book.{Book}
+use Rattle.market.specs.declared.book.Entry.{Entry}
+use Rattle.register.specs.Entries.{soundEntry}
+use Rattle.register.specs.Words.{entriesOf}
+
+-- each entry is sound for the book
+abbrev pub soundEntries : Book → List Entry → Bool
+soundEntries b es = every (soundEntry (b .«path_count»)) es
+
+-- the entries that a book counts
+abbrev pub countedEntries : Book → List ℕ → List Entry
+countedEntries b words = entriesOf words (b .entries)
+
+abbrev pub registerRefusals : Book → List ℕ → List Row
+registerRefusals b words =
+    (ltb (length words) registerWords gives 1)
+    ∷ (not (soundBook b && soundEntries b (countedEntries b words)) gives 2)
+    ∷ []

@@ -1,0 +1,61 @@
+use mathlib.Core.Path.{refl, sym, _∙_, ap}
+use lib.ListN.{length}
+use Rattle.market.proofs.Tables.{neither-holds, refuses, takes, list-stays, list-changes}
+use Rattle.market.specs.Answers.{answered}
+use Rattle.market.specs.Books.{withEntries}
+use Rattle.register.proofs.Cleared.{register-cleared}
+use Rattle.register.specs.Refusals.{registerRefusals}
+use Rattle.register.specs.Words.{written}
+use Rattle.retire.specs.Retire.{retireRefusals, retireTable, entriesLeft, retire, retireWords}
+use borrow.Author.Needs.{needs}
+use Rattle.retire.proofs.retire.Statement.{statement}
+use Rattle.retire.proofs.retire.Tie as tie
+
+refusal-requires : tie.Need-refusal-requires
+refusal-requires c κs = search needs
+
+same-length : tie.Need-same-length
+same-length c = search needs
+
+returns : tie.Need-returns
+unfolding retire retireWords
+returns c =
+    let a = c .before .before .before .before .args in
+    let n = c .before .refusal .result in
+    let is = c .before .refusal .ensures in
+    (refuses (a .book) (retireTable (a .book) (a .words .now) (a .day)) (answered (withEntries (a .book) (length (entriesLeft (a .book) (a .words .now) (a .day))))) n is (c .if1 .taken), list-stays (a .words .now) (retireTable (a .book) (a .words .now) (a .day)) (written (a .words .now) (entriesLeft (a .book) (a .words .now) (a .day))) n is (c .if1 .taken))
+
+remove-requires : tie.Need-remove-requires
+remove-requires c κs =
+    let a = c .before .before .before .before .before .args in
+    let none = neither-holds (registerRefusals (a .book) (a .words .now)) (retireRefusals (a .day)) refl (sym (c .before .before .refusal .ensures) ∙ c .before .if1 .left) in
+    register-cleared (a .book) (a .words .now) (none .0) .room
+
+with-entries-requires : tie.Need-with-entries-requires
+with-entries-requires c κs = search needs
+
+same-length-2 : tie.Need-same-length-2
+same-length-2 c = search needs
+
+returns-2 : tie.Need-returns-2
+unfolding retire retireWords
+returns-2 c =
+    let a = c .before .before .before .before .before .before .before .before .before .args in
+    let n = c .before .before .before .before .before .before .refusal .result in
+    let is = c .before .before .before .before .before .before .refusal .ensures in (
+      ap answered (c .with-entries .ensures ∙ ap (withEntries (a .book)) (c .before .before .before .remove .ensures .0))
+          ∙ takes (a .book) (retireTable (a .book) (a .words .now) (a .day)) (answered (withEntries (a .book) (length (entriesLeft (a .book) (a .words .now) (a .day))))) n is (c .before .before .before .before .before .if1 .left),
+      c .before .before .before .remove .ensures .1 ∙ list-changes (a .words .now) (retireTable (a .book) (a .words .now) (a .day)) (written (a .words .now) (entriesLeft (a .book) (a .words .now) (a .day))) n is (c .before .before .before .before .before .if1 .left),
+    )
+
+pub retire-spec : {M : Type 1} → statement M
+retire-spec =
+    tie.close
+    (tie.spec
+    refusal-requires
+    same-length
+    returns
+    remove-requires
+    with-entries-requires
+    same-length-2
+    returns-2)

@@ -1,0 +1,2 @@
+-- The rule of retire.
+pub mod Retire
