@@ -30,6 +30,21 @@ sum-fits (negsuc a) n h k =
     let at-most : a ≤ accountLimit - 1 = leb-true a (accountLimit - 1) (left-true (leb a (accountLimit - 1)) true h) in
     record { sfits = omega (arith, difference-mag n (suc a) accountLimit k (omega arith)) }
 
+-- and so does what is left of the balance without the amount
+pub difference-fits : (z : ℤ) (n : ℕ) → soundAccount z ≡ true → n ≤ accountLimit → SFits w64 (z -ℤ pos n)
+difference-fits (pos a) zero h k =
+    let at-most : a ≤ accountLimit = leb-true a accountLimit h in
+    record { sfits = omega arith }
+difference-fits (pos a) (suc n) h k =
+    let at-most : a ≤ accountLimit = leb-true a accountLimit h in
+    record { sfits = omega (arith, difference-mag a (suc n) accountLimit at-most k) }
+difference-fits (negsuc a) zero h k =
+    let at-most : a ≤ accountLimit - 1 = leb-true a (accountLimit - 1) (left-true (leb a (accountLimit - 1)) true h) in
+    record { sfits = omega (arith, difference-mag 0 (suc a) accountLimit zero-le (omega arith)) }
+difference-fits (negsuc a) (suc n) h k =
+    let at-most : a ≤ accountLimit - 1 = leb-true a (accountLimit - 1) (left-true (leb a (accountLimit - 1)) true h) in
+    record { sfits = omega arith }
+
 -- the other sign of a sound balance fits too
 pub opposite-fits : (z : ℤ) → soundAccount z ≡ true → SFits w64 (pos 0 -ℤ z)
 opposite-fits (pos zero) h = record { sfits = lit< tt }

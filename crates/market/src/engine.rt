@@ -49,6 +49,37 @@ impl Engine {
 
     pub const ISSUED: u32 = 2;
 
+    // The auction.
+    pub const LAMINATIONS: u32 = 20;
+
+    pub const PRICE_LIMIT: u32 = 100_000_000;
+
+    pub const BID_LIST_WORDS: usize = 4_096;
+
+    pub const BID_ANSWER_WORDS: usize = 2_728;
+
+    pub const PATH_ANSWER_WORDS: usize = 48;
+
+    pub const SCRATCH_WORDS: usize = 2_048;
+
+    // Settlement.
+    pub const ZONES: usize = 16;
+
+    pub const ZONE_PRICE_LIMIT: i64 = 1_000_000;
+
+    pub const POOL_LIMIT: u64 = 100_000_000_000;
+
+    pub const RESERVE: u64 = 2_000_000_000;
+
+    pub const COLUMN_LIMIT: u64 = 100_000_000;
+
+    // Sheets.
+    pub const SHEET_BYTES: usize = 16_384;
+
+    pub const AWARD_SHEET_BYTES: usize = 65_536;
+
+    pub const DIGITS: usize = 13;
+
     // The idle stage.
     pub fn idle() -> Stage
         ensures { λ r. ⌜ r ≡ Stage.Idle ⌝ }

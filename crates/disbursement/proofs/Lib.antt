@@ -1,0 +1,6 @@
+-- Laws about disburse and recover.
+pub mod Lists
+pub mod ColumnLaws
+pub mod ShareLaws
+pub mod Cleared
+pub mod Examples

@@ -1,0 +1,62 @@
+-- Laws about the lists that are copied, written and added.
+use mathlib.Core.Path.{_≡_, refl, sym, _∙_, ap}
+use mathlib.Core.List.{List, [], _∷_, _++_, map, map-id, append-nil}
+use Prim.Native.Nat.{ℕ, zero, suc, _+_, _-_, _≤_, _<_}
+use native.Mathlib.Numerals.{add-one}
+use native.Mathlib.Omega.{arith}
+use lib.ListN.{length, getD, take, drop, set}
+use lib.Seq.{length-take-le, take-all, take-suc, drop-cons, append-snoc, set-at, ext-getD}
+use Rattle.market.proofs.Filled.{filled}
+use Rattle.sharing.specs.Sharing.{total}
+use Rattle.disbursement.specs.Disbursement.{together}
+
+-- a column that is copied from the front, at the end of the copy
+pub all-copied : (words : List ℕ) (n i : ℕ) → n ≤ i → i ≤ n → filled (λ (x : ℕ). x) words n 0 i ≡ take n words
+all-copied words n i p q =
+    let end : i ≡ n = omega arith in
+    let none : n - n ≡ 0 = omega arith in
+    rw (end, none) (append-nil (map (λ (x : ℕ). x) (take n words)) ∙ map-id (take n words))
+
+-- a list that is written from the front: the next word is written
+module _ (amounts before : List ℕ) (i : ℕ) where
+  pub write-next : i < length amounts → i < length before → set (take i amounts ++ drop i before) i (getD amounts i 0) ≡ take (i + 1) amounts ++ drop (i + 1) before
+  write-next p q =
+      ap (λ (l : List ℕ). set (take i amounts ++ l) i (getD amounts i 0)) (drop-cons before i 0 q)
+      ∙ set-at (take i amounts) (getD before i 0) (drop (suc i) before) (getD amounts i 0) i (length-take-le i amounts (omega arith))
+      ∙ sym (append-snoc (take i amounts) (getD amounts i 0) (drop (suc i) before))
+      ∙ rw (add-one, take-suc amounts i 0 p)
+
+  -- and at the end all are
+  pub all-written : (n : ℕ) → length amounts ≡ n → n ≤ i → i ≤ n → take i amounts ++ drop i before ≡ amounts ++ drop n before
+  all-written n long p q =
+      let end : i ≡ n = omega arith in
+      rw (take-all i amounts (omega arith), end)
+
+-- two lists of cents together, for lists of one length
+no-shorter : (n : ℕ) → suc n ≡ 0 → ⊥
+no-shorter n p = omega arith
+
+pub together-length : (xs ys : List ℕ) → length xs ≡ length ys → length (together xs ys) ≡ length xs
+together-length [] ys h = refl
+together-length (x ∷ xs) [] h = absurd (no-shorter (length xs) h)
+together-length (x ∷ xs) (y ∷ ys) h = ap suc (together-length xs ys (omega arith))
+
+together-at : (xs ys : List ℕ) (j : ℕ) → length xs ≡ length ys → getD (together xs ys) j 0 ≡ getD xs j 0 + getD ys j 0
+together-at [] [] j h = omega arith
+together-at [] (y ∷ ys) j h = absurd (no-shorter (length ys) (sym h))
+together-at (x ∷ xs) [] j h = absurd (no-shorter (length xs) h)
+together-at (x ∷ xs) (y ∷ ys) zero h = refl
+together-at (x ∷ xs) (y ∷ ys) (suc j) h = together-at xs ys j (omega arith)
+
+-- a list that has the sum at each place is the two together
+pub all-together : (xs ys zs : List ℕ) → length xs ≡ length ys → length zs ≡ length xs → ((j : ℕ) → j < length zs → getD zs j 0 ≡ getD xs j 0 + getD ys j 0) → zs ≡ together xs ys
+all-together xs ys zs p q h =
+    ext-getD 0 zs (together xs ys) (q ∙ sym (together-length xs ys p))
+    (λ (j : ℕ) (b : j < length zs). h j b ∙ sym (together-at xs ys j p))
+
+-- and they add up to what the two add up to
+pub together-total : (xs ys : List ℕ) → length xs ≡ length ys → total (together xs ys) ≡ total xs + total ys
+together-total [] [] h = omega arith
+together-total [] (y ∷ ys) h = absurd (no-shorter (length ys) (sym h))
+together-total (x ∷ xs) [] h = absurd (no-shorter (length xs) h)
+together-total (x ∷ xs) (y ∷ ys) h = omega (arith, together-total xs ys (omega arith))

@@ -1,0 +1,67 @@
+use borrow.Author.Needs.{needs}
+use mathlib.Core.Path.{_≡_, refl, _∙_, ap}
+use mathlib.Core.List.{List}
+use Prim.Native.Nat.{ℕ, _-_, _≤_}
+use lib.ListN.{getD, set}
+use Rattle.market.proofs.Filled.{filled, fill-next}
+use Rattle.market.specs.Limits.{bidderLimit}
+use Rattle.disbursement.proofs.Lists.{all-copied}
+use Rattle.disbursement.proofs.columns.column_of.Statement.{statement}
+use Rattle.disbursement.proofs.columns.column_of.Tie as tie
+
+abbrev Inv-loop : tie.InvT-loop
+Inv-loop words column₀ i₀ column i = (i ≤ bidderLimit) × (column ≡ filled (λ (x : ℕ). x) words bidderLimit 0 i)
+
+abbrev μ-loop : tie.MeasureT-loop
+μ-loop words column₀ i₀ column i = bidderLimit - i
+
+loop-holds : tie.Need-loop-holds Inv-loop μ-loop
+loop-holds c = (search needs, refl)
+
+mul-column : tie.Need-mul-column Inv-loop μ-loop
+mul-column c = search needs
+
+shared-slice-read-column : tie.Need-shared-slice-read-column Inv-loop μ-loop
+shared-slice-read-column c = search needs
+
+mul-column-2 : tie.Need-mul-column-2 Inv-loop μ-loop
+mul-column-2 c = search needs
+
+array-write-column : tie.Need-array-write-column Inv-loop μ-loop
+array-write-column c = search needs
+
+add-i : tie.Need-add-i Inv-loop μ-loop
+add-i c = search needs
+
+loop-less : tie.Need-loop-less Inv-loop μ-loop
+loop-less c = search needs
+
+loop-again : tie.Need-loop-again Inv-loop μ-loop
+loop-again c =
+    let words = c .before .before .before .args .words .now in
+    let at = c .before .before .loop in (
+      search needs,
+      ap (λ (l : List ℕ). set l (at .i) (getD words (at .i) 0)) (at .inv .1)
+          ∙ fill-next (λ (x : ℕ). x) words bidderLimit 0 (at .i) 0 (search needs) (search needs),
+    )
+
+returns : tie.Need-returns Inv-loop μ-loop
+returns c =
+    let at = c .before .loop in
+    at .inv .1 ∙ all-copied (c .before .before .args .words .now) bidderLimit (at .i) (search needs) (search needs)
+
+pub column-of-spec : {M : Type 1} → statement M
+column-of-spec =
+    tie.close
+    (tie.spec
+    Inv-loop
+    μ-loop
+    loop-holds
+    mul-column
+    shared-slice-read-column
+    mul-column-2
+    array-write-column
+    add-i
+    loop-less
+    loop-again
+    returns)

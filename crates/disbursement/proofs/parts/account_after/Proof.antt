@@ -1,0 +1,27 @@
+use native.Mathlib.Omega.{arith}
+use Rattle.market.proofs.SoundLaws.{sound-parts}
+use borrow.Author.Needs.{needs}
+use Rattle.disbursement.proofs.parts.account_after.Statement.{statement}
+use Rattle.disbursement.proofs.parts.account_after.Tie as tie
+
+enum-told : tie.Need-enum-told
+enum-told c = search needs
+
+minus-requires : tie.Need-minus-requires
+minus-requires c κs = (sound-parts (c .before .before .before .args .book) (c .before .before .before .pre .0) .account, omega (arith, c .before .before .before .pre .1))
+
+enum-told-2 : tie.Need-enum-told-2
+enum-told-2 c = search needs
+
+plus-requires : tie.Need-plus-requires
+plus-requires c κs = (sound-parts (c .before .before .before .args .book) (c .before .before .before .pre .0) .account, omega (arith, c .before .before .before .pre .1))
+
+returns : tie.Need-returns
+returns c = rw (c .before .enum-told .given .1) (c .minus .ensures)
+
+returns-2 : tie.Need-returns-2
+returns-2 c = rw (c .before .enum-told2 .given .1) (c .plus .ensures)
+
+pub account-after-spec : {M : Type 1} → statement M
+account-after-spec =
+    tie.close (tie.spec enum-told minus-requires enum-told-2 plus-requires returns returns-2)

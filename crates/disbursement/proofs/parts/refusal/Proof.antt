@@ -1,0 +1,34 @@
+use mathlib.Core.Path.{refl, sym, _∙_}
+use Rattle.market.proofs.Tables.{first-stands, second-decides}
+use Rattle.disbursement.proofs.Cleared.{total-cleared}
+use Rattle.disbursement.specs.Disbursement.{totalRefusals, columnRefusals}
+use borrow.Author.Needs.{needs}
+use Rattle.disbursement.proofs.parts.refusal.Statement.{statement}
+use Rattle.disbursement.proofs.parts.refusal.Tie as tie
+
+total-refusal-requires : tie.Need-total-refusal-requires
+total-refusal-requires c κs = search needs
+
+returns : tie.Need-returns
+returns c =
+    let a = c .before .before .args in
+    let is = c .before .total-refusal .ensures in
+    is
+    ∙ sym
+    (first-stands (totalRefusals (a .flow) (a .book) (a .total)) (columnRefusals (a .total .0) (a .columns)) (λ z. c .if1 .taken (is ∙ z)))
+
+refusal-requires : tie.Need-refusal-requires
+refusal-requires c κs =
+    let a = c .before .before .args in
+    total-cleared (a .flow) (a .book) (a .total) (sym (c .before .total-refusal .ensures) ∙ c .if1 .left) .1
+
+returns-2 : tie.Need-returns-2
+returns-2 c =
+    let a = c .before .before .before .args in
+    c .refusal .ensures
+    ∙ sym
+    (second-decides (totalRefusals (a .flow) (a .book) (a .total)) (columnRefusals (a .total .0) (a .columns)) refl
+    (sym (c .before .before .total-refusal .ensures) ∙ c .before .if1 .left))
+
+pub refusal-spec : {M : Type 1} → statement M
+refusal-spec = tie.close (tie.spec total-refusal-requires returns refusal-requires returns-2)

@@ -1,0 +1,169 @@
+-- Document 01, "Disburse, recover (001): total D, and per participant provincial charge, export charge (whole dollars), energy
+-- withdrawn at meters, energy withdrawn at interties (whole MWh)."
+use mathlib.Core.Bool.{Bool, not, _&&_}
+use mathlib.Core.List.{List, [], _∷_, _++_}
+use Prim.Native.Nat.{ℕ, _+_, _-_, _*_, _/_}
+use lib.Dec.{leb, ltb, eqb}
+use lib.IntN.{ℤ, pos, _+ℤ_, _-ℤ_}
+use lib.ListN.{length, take, drop}
+use lib.Signed.{leZ}
+use Rattle.market.specs.Answers.{Row, _gives_, firstOf, answered, decided, decidedList}
+use Rattle.market.specs.Books.{withAccount}
+use Rattle.market.specs.Limits.{bidderLimit, poolLimit, reserve, columnLimit}
+use Rattle.market.specs.Sound.{soundBook}
+use Rattle.market.specs.declared.answer.Outcome.{Outcome}
+use Rattle.market.specs.declared.book.Book.{Book}
+use Rattle.market.specs.declared.units.Cents.{Cents}
+use Rattle.sharing.specs.Sharing.{total, eligible, poolShares}
+use Rattle.disbursement.specs.declared.flow.Flow.{Flow}
+use Rattle.disbursement.specs.declared.flow.Flow.the-variants.{Out, In}
+use Rattle.disbursement.specs.declared.columns.Columns.{Columns}
+
+-- ---- What is lent
+
+-- the four columns, and "Shares go to a lent list of 32."
+pub record Lent : Type 0 where
+  pub provincial : List ℕ
+  pub export : List ℕ
+  pub meters : List ℕ
+  pub interties : List ℕ
+  pub shares : List ℕ
+
+abbrev pub lent : List ℕ → List ℕ → List ℕ → List ℕ → List ℕ → Lent
+lent provincial export meters interties shares =
+    record { provincial = provincial; export = export; meters = meters; interties = interties; shares = shares }
+
+-- a word for each participant
+abbrev pub longEnough : List ℕ → Bool
+longEnough l = leb bidderLimit (length l)
+
+abbrev pub allLongEnough : Lent → Bool
+allLongEnough l =
+    longEnough (l .provincial)
+    && longEnough (l .export)
+    && longEnough (l .meters)
+    && longEnough (l .interties)
+    && longEnough (l .shares)
+
+-- a column is the first 32 words of a list: words past them are no part of it
+abbrev pub columnsFrom : List ℕ → List ℕ → List ℕ → List ℕ → Columns
+columnsFrom provincial export meters interties =
+    record {
+      provincial = take bidderLimit provincial;
+      export = take bidderLimit export;
+      meters = take bidderLimit meters;
+      interties = take bidderLimit interties;
+    }
+
+abbrev pub columnsOf : Lent → Columns
+columnsOf l = columnsFrom (l .provincial) (l .export) (l .meters) (l .interties)
+
+-- ---- The shares
+
+-- "all charges"
+abbrev pub allCharges : Columns → ℕ
+allCharges cols = total (cols .provincial) + total (cols .export)
+
+-- "Provincial pool = floor(D × all provincial / all charges); export pool = the rest."
+abbrev pub provincialPool : ℕ → Columns → ℕ
+provincialPool d cols = d * total (cols .provincial) / allCharges cols
+
+abbrev pub exportPool : ℕ → Columns → ℕ
+exportPool d cols = d - provincialPool d cols
+
+-- "A pool is shared by its energy column among those with a charge of its sort above 0": the weights of each pool
+abbrev pub provincialWeights : Columns → List ℕ
+provincialWeights cols = eligible (cols .provincial) (cols .meters)
+
+abbrev pub exportWeights : Columns → List ℕ
+exportWeights cols = eligible (cols .export) (cols .interties)
+
+-- each participant's cents of two lists together
+abbrev pub together : List ℕ → List ℕ → List ℕ
+together (x ∷ xs) (y ∷ ys) = (x + y) ∷ together xs ys
+together [] ys = []
+together (x ∷ xs) [] = []
+
+-- a participant's share: its cents of both pools
+unfoldable pub sharesOf : ℕ → Columns → List ℕ
+sharesOf d cols =
+    together (poolShares (provincialPool d cols) (provincialWeights cols)) (poolShares (exportPool d cols) (exportWeights cols))
+
+-- ---- The account
+
+-- "Disburse takes D from the account, recover adds D to it."
+abbrev pub accountAfter : Flow → Book → Cents → ℤ
+accountAfter Out b d = b .account .0 -ℤ pos (d .0)
+accountAfter In b d = b .account .0 +ℤ pos (d .0)
+
+-- "Disburse leaves at least 2×10^9 in the account; recover is at most the shortfall below 0."
+abbrev pub withinBound : Flow → ℤ → Bool
+withinBound Out after = leZ (pos reserve) after
+withinBound In after = leZ after (pos 0)
+
+-- ---- Refusals, in their order
+
+-- 1 "a lent buffer shorter than stated"
+abbrev pub lentRefusals : Lent → List Row
+lentRefusals l = (not (allLongEnough l) gives 1) ∷ []
+
+-- 2 the book; 32 "D outside 1 to 10^11 or its bound"
+abbrev pub totalRefusals : Flow → Book → Cents → List Row
+totalRefusals flow b d =
+    (not (soundBook b) gives 2)
+    ∷ (eqb (d .0) 0 gives 32)
+    ∷ (not (leb (d .0) poolLimit) gives 32)
+    ∷ (not (withinBound flow (accountAfter flow b d)) gives 32)
+    ∷ []
+
+-- "a column total over 10^8": energy totals count everybody
+abbrev pub columnsWithin : Columns → Bool
+columnsWithin cols =
+    leb (total (cols .provincial)) columnLimit
+    && leb (total (cols .export)) columnLimit
+    && leb (total (cols .meters)) columnLimit
+    && leb (total (cols .interties)) columnLimit
+
+-- "a pool above 0 with no eligible energy"
+abbrev pub unshared : ℕ → List ℕ → Bool
+unshared pool weights = ltb 0 pool && eqb (total weights) 0
+
+-- 33 "a column total over 10^8, all charges 0, or a pool above 0 with no eligible energy"
+abbrev pub columnRefusals : ℕ → Columns → List Row
+columnRefusals d cols =
+    (not (columnsWithin cols) gives 33)
+    ∷ (eqb (allCharges cols) 0 gives 33)
+    ∷ (unshared (provincialPool d cols) (provincialWeights cols) gives 33)
+    ∷ (unshared (exportPool d cols) (exportWeights cols) gives 33)
+    ∷ []
+
+abbrev pub refusals : Flow → Book → Cents → Lent → List Row
+refusals flow b d l = lentRefusals l ++ (totalRefusals flow b d ++ columnRefusals (d .0) (columnsOf l))
+
+-- ---- The calls
+
+-- the answer and the book
+unfoldable pub outcome : Flow → Book → Cents → Lent → Outcome
+outcome flow b d l =
+    decided b (firstOf (refusals flow b d l)) (answered (withAccount b (accountAfter flow b d)))
+
+-- "nothing lent .. differs afterwards" where the call is refused; else all 32 shares are written, and words past them stay
+abbrev pub written : ℕ → List ℕ → List ℕ → List ℕ
+written number shares before = decidedList before number (shares ++ drop bidderLimit before)
+
+unfoldable pub sharesAfter : Flow → Book → Cents → Lent → List ℕ
+sharesAfter flow b d l = written (firstOf (refusals flow b d l)) (sharesOf (d .0) (columnsOf l)) (l .shares)
+
+-- disburse: its outcome, and what the lent list of shares holds after it
+abbrev pub disburse : Book → Cents → Lent → Outcome
+disburse b d l = outcome Out b d l
+
+abbrev pub disbursed : Book → Cents → Lent → List ℕ
+disbursed b d l = sharesAfter Out b d l
+
+-- recover, likewise
+abbrev pub recover : Book → Cents → Lent → Outcome
+recover b d l = outcome In b d l
+
+abbrev pub recovered : Book → Cents → Lent → List ℕ
+recovered b d l = sharesAfter In b d l

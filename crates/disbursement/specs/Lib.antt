@@ -1,0 +1,2 @@
+-- The rules of disburse and recover.
+pub mod Disbursement

@@ -1,0 +1,71 @@
+// The columns of charges and energy, and the lent lists that they come from and the shares go to.
+use market::engine::Engine;
+ghost use mathlib.Core.Path.{_≡_};
+ghost use mathlib.Core.List.{_++_};
+ghost use Prim.Native.Nat.{_≤_};
+ghost use lib.ListN.{length, take, drop};
+ghost use Rattle.market.specs.Limits.{bidderLimit};
+ghost use Rattle.disbursement.specs.Disbursement.{lent, allLongEnough, columnsFrom};
+
+// For each participant its charges, in whole dollars, and its energy, in whole MWh.
+pub struct Columns {
+    pub provincial: [u32; Engine::BIDDERS],
+    pub export: [u32; Engine::BIDDERS],
+    pub meters: [u32; Engine::BIDDERS],
+    pub interties: [u32; Engine::BIDDERS],
+}
+
+// Whether each list that is lent has a word for each participant.
+pub fn all_long_enough(
+    provincial: &[u32],
+    export: &[u32],
+    meters: &[u32],
+    interties: &[u32],
+    shares: &[u64],
+) -> bool
+    ensures { λ r. ⌜ r ≡ allLongEnough (lent (now (provincial .entry)) (now (export .entry)) (now (meters .entry)) (now (interties .entry)) (now (shares .entry))) ⌝ }
+{
+    (Engine::BIDDERS <= provincial.len())
+        & (Engine::BIDDERS <= export.len())
+        & (Engine::BIDDERS <= meters.len())
+        & (Engine::BIDDERS <= interties.len())
+        & (Engine::BIDDERS <= shares.len())
+}
+
+// The participants' words of a lent column.
+fn column_of(words: &[u32]) -> [u32; Engine::BIDDERS]
+    requires { ⌜ bidderLimit ≤ length (now words) ⌝ }
+    ensures { λ r. ⌜ r ≡ take bidderLimit (now (words .entry)) ⌝ }
+{
+    let mut column: [u32; Engine::BIDDERS] = [0; Engine::BIDDERS];
+    for i in 0..Engine::BIDDERS {
+        column[i] = words[i];
+    }
+    column
+}
+
+// The columns of the lists that are lent.
+pub fn columns_of(provincial: &[u32], export: &[u32], meters: &[u32], interties: &[u32]) -> Columns
+    requires { ⌜ bidderLimit ≤ length (now provincial) ⌝ }
+    requires { ⌜ bidderLimit ≤ length (now export) ⌝ }
+    requires { ⌜ bidderLimit ≤ length (now meters) ⌝ }
+    requires { ⌜ bidderLimit ≤ length (now interties) ⌝ }
+    ensures { λ r. ⌜ r ≡ columnsFrom (now (provincial .entry)) (now (export .entry)) (now (meters .entry)) (now (interties .entry)) ⌝ }
+{
+    Columns {
+        provincial: column_of(provincial),
+        export: column_of(export),
+        meters: column_of(meters),
+        interties: column_of(interties),
+    }
+}
+
+// Writes the shares to the front of the lent list.
+pub fn write_shares(amounts: [u64; Engine::BIDDERS], shares: &mut [u64])
+    requires { ⌜ bidderLimit ≤ length (now shares) ⌝ }
+    ensures { λ _. ⌜ now (shares .exit) ≡ amounts ++ drop bidderLimit (now (shares .entry)) ⌝ }
+{
+    for bidder in 0..Engine::BIDDERS {
+        shares[bidder] = amounts[bidder];
+    }
+}

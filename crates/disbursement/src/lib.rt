@@ -1,0 +1,63 @@
+// Disburse and recover: a total shared out of the clearing account, or into it, by charges and energy.
+mod call;
+mod columns;
+mod flow;
+mod parts;
+mod pools;
+
+use flow::Flow;
+use market::answer::Outcome;
+use market::book::Book;
+use market::units::Cents;
+ghost use mathlib.Core.Path.{_≡_};
+ghost use Rattle.disbursement.specs.Disbursement as rules;
+
+// A total out of the clearing account, shared among the participants.
+pub fn disburse(
+    book: Book,
+    total: Cents,
+    provincial: &[u32],
+    export: &[u32],
+    meters: &[u32],
+    interties: &[u32],
+    shares: &mut [u64],
+) -> Outcome
+    ensures { λ r. ⌜ r ≡ rules.disburse book total (rules.lent (now (provincial .entry)) (now (export .entry)) (now (meters .entry)) (now (interties .entry)) (now (shares .entry))) ⌝ }
+    ensures { λ _. ⌜ now (shares .exit) ≡ rules.disbursed book total (rules.lent (now (provincial .entry)) (now (export .entry)) (now (meters .entry)) (now (interties .entry)) (now (shares .entry))) ⌝ }
+{
+    call::settle(
+        Flow::Out,
+        book,
+        total,
+        provincial,
+        export,
+        meters,
+        interties,
+        shares,
+    )
+}
+
+// A total into the clearing account, shared among the participants.
+pub fn recover(
+    book: Book,
+    total: Cents,
+    provincial: &[u32],
+    export: &[u32],
+    meters: &[u32],
+    interties: &[u32],
+    shares: &mut [u64],
+) -> Outcome
+    ensures { λ r. ⌜ r ≡ rules.recover book total (rules.lent (now (provincial .entry)) (now (export .entry)) (now (meters .entry)) (now (interties .entry)) (now (shares .entry))) ⌝ }
+    ensures { λ _. ⌜ now (shares .exit) ≡ rules.recovered book total (rules.lent (now (provincial .entry)) (now (export .entry)) (now (meters .entry)) (now (interties .entry)) (now (shares .entry))) ⌝ }
+{
+    call::settle(
+        Flow::In,
+        book,
+        total,
+        provincial,
+        export,
+        meters,
+        interties,
+        shares,
+    )
+}
