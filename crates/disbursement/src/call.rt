@@ -39,7 +39,7 @@ pub fn settle(
             book,
         };
     }
-    columns::write_shares(pools::shares_of(total.0, columns), shares);
+    amounts::write_amounts(pools::shares_of(total.0, columns), shares);
     Outcome {
         answer: Answer::Done,
         book: parts::moved(flow, book, total),

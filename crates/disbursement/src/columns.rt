@@ -1,9 +1,8 @@
 // The columns of charges and energy, and the lent lists that they come from and the shares go to.
 use market::engine::Engine;
 ghost use mathlib.Core.Path.{_≡_};
-ghost use mathlib.Core.List.{_++_};
 ghost use Prim.Native.Nat.{_≤_};
-ghost use lib.ListN.{length, take, drop};
+ghost use lib.ListN.{length, take};
 ghost use Rattle.market.specs.Limits.{bidderLimit};
 ghost use Rattle.disbursement.specs.Disbursement.{lent, allLongEnough, columnsFrom};
 
@@ -57,15 +56,5 @@ pub fn columns_of(provincial: &[u32], export: &[u32], meters: &[u32], interties:
         export: column_of(export),
         meters: column_of(meters),
         interties: column_of(interties),
-    }
-}
-
-// Writes the shares to the front of the lent list.
-pub fn write_shares(amounts: [u64; Engine::BIDDERS], shares: &mut [u64])
-    requires { ⌜ bidderLimit ≤ length (now shares) ⌝ }
-    ensures { λ _. ⌜ now (shares .exit) ≡ amounts ++ drop bidderLimit (now (shares .entry)) ⌝ }
-{
-    for bidder in 0..Engine::BIDDERS {
-        shares[bidder] = amounts[bidder];
     }
 }

@@ -31,6 +31,8 @@ impl Refusal {
 
     pub const QUANTITY: u32 = 25;
     // Settlement's.
+    pub const ZONE_PRICE: u32 = 30;
+
     pub const ACCOUNT: u32 = 31;
 
     pub const TOTAL: u32 = 32;

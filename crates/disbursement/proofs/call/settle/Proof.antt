@@ -53,8 +53,8 @@ shares-of-requires c κs =
     let clear = rest-cleared (a .flow) (a .book) (a .total) (cols .result) (number .result) (number .ensures) (c .if2 .left) in
     (clear .0 .1, clear .1)
 
-write-shares-requires : tie.Need-write-shares-requires
-write-shares-requires c κs =
+write-amounts-requires : tie.Need-write-amounts-requires
+write-amounts-requires c κs =
     let a = c .before .before .before .before .before .before .before .before .before .before .before .before .before .args in
     let l = lent (a .provincial .now) (a .export .now) (a .meters .now) (a .interties .now) (a .shares .now) in
     let lengths = c .before .before .before .before .before .before .all-long-enough in
@@ -80,7 +80,7 @@ returns-3 c =
     let is = long-number (a .flow) (a .book) (a .total) l (lengths .result) (lengths .ensures) (c .before .before .before .before .before .before .before .before .before .if1 .left) (cols .result) (cols .ensures) (number .result) (number .ensures) in
     let none = c .before .before .before .before .before .before .if2 .left in
     let amounts = c .before .before .before .before .before .shares-of in
-    let written = c .before .before .before .write-shares in (
+    let written = c .before .before .before .write-amounts in (
       ap answered (c .moved .ensures) ∙ takes-call (a .flow) (a .book) (a .total) l (number .result) is none,
       writes-call (a .flow) (a .book) (a .total) l (number .result) is none (cols .result) (amounts .result) (written .last .1 .0)
           (cols .ensures)
@@ -100,7 +100,7 @@ settle-spec =
     same-length-2
     returns-2
     shares-of-requires
-    write-shares-requires
+    write-amounts-requires
     moved-requires
     same-length-3
     returns-3)

@@ -1,0 +1,2 @@
+-- Laws about amounts that are written.
+pub mod Written

@@ -1,0 +1,23 @@
+-- Laws about a list that is written from the front.
+use mathlib.Core.Path.{_≡_, sym, _∙_, ap}
+use mathlib.Core.List.{List, _++_}
+use Prim.Native.Nat.{ℕ, suc, _+_, _≤_, _<_}
+use native.Mathlib.Numerals.{add-one}
+use native.Mathlib.Omega.{arith}
+use lib.ListN.{length, getD, take, drop, set}
+use lib.Seq.{length-take-le, take-all, take-suc, drop-cons, append-snoc, set-at}
+
+-- the next word is written
+module _ (amounts before : List ℕ) (i : ℕ) where
+  pub write-next : i < length amounts → i < length before → set (take i amounts ++ drop i before) i (getD amounts i 0) ≡ take (i + 1) amounts ++ drop (i + 1) before
+  write-next p q =
+      ap (λ (l : List ℕ). set (take i amounts ++ l) i (getD amounts i 0)) (drop-cons before i 0 q)
+      ∙ set-at (take i amounts) (getD before i 0) (drop (suc i) before) (getD amounts i 0) i (length-take-le i amounts (omega arith))
+      ∙ sym (append-snoc (take i amounts) (getD amounts i 0) (drop (suc i) before))
+      ∙ rw (add-one, take-suc amounts i 0 p)
+
+  -- and at the end all are
+  pub all-written : (n : ℕ) → length amounts ≡ n → n ≤ i → i ≤ n → take i amounts ++ drop i before ≡ amounts ++ drop n before
+  all-written n long p q =
+      let end : i ≡ n = omega arith in
+      rw (take-all i amounts (omega arith), end)

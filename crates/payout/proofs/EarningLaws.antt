@@ -1,0 +1,84 @@
+-- Laws about what entries earn and how amounts add up.
+use mathlib.Core.Path.{_≡_, refl, sym, _∙_, ap}
+use mathlib.Core.Bool.{Bool, true, false, _&&_, or-true}
+use mathlib.Core.List.{List, [], _∷_, _++_}
+use Prim.Native.Nat.{ℕ, _+_, _*_, _≤_, _<_}
+use native.Mathlib.Nat.{mul-le-mul}
+use native.Mathlib.Omega.{arith}
+use lib.Dec.{leb, eqb}
+use lib.IntN.{ℤ, pos}
+use lib.ListN.{length, getD, take, length-set}
+use lib.Seq.{getD-take}
+use borrow.Author.Tests.{leb-true}
+use Rattle.market.proofs.Every.{every-at-any, every-within}
+use Rattle.market.proofs.SoundLaws.{sound-parts}
+use Rattle.market.proofs.Tests.{left-true}
+use Rattle.market.specs.Books.{every, _implies_, noPath}
+use Rattle.market.specs.Limits.{zoneLimit, quantityLimit, zones, zonePriceLimit}
+use Rattle.market.specs.Sound.{roundOf, soundPath, soundBook}
+use Rattle.market.specs.declared.book.Book.{Book}
+use Rattle.market.specs.declared.book.Entry.{Entry}
+use Rattle.market.specs.declared.book.Path.{Path}
+use Rattle.register.proofs.EntryLaws.{EntryBounds, entry-bounds, entries-more}
+use Rattle.register.proofs.WordLaws.{entries-at, entries-length}
+use Rattle.register.specs.Entries.{soundEntry}
+use Rattle.register.specs.Words.{entryAt, entriesOf}
+use Rattle.sharing.proofs.Totals.{total-set}
+use Rattle.sharing.specs.Sharing.{total}
+use Rattle.payout.specs.Payout.{hourAt, pathOf, credit, credited, soundPrice, soundPrices, soundHour}
+
+-- a path of a sound book leads to a zone
+nothing-sound : (round : ℕ) → soundPath round noPath ≡ true
+nothing-sound round = simp or-true
+
+pub zone-within : (b : Book) (i : ℕ) → soundBook b ≡ true → i < b .«path_count» → pathOf b i .zone ≤ zoneLimit
+zone-within b i h below =
+    let round = roundOf (b .stage) in
+    let p = getD (take (b .«path_count») (b .paths)) i noPath in
+    let all = every-at-any (soundPath round) (take (b .«path_count») (b .paths)) i noPath (sound-parts b h .paths) (nothing-sound round) in
+    let is : p ≡ pathOf b i = getD-take (b .«path_count») (b .paths) i noPath below in
+    let zone = leb (p .zone) zoneLimit in
+    let first = eqb round 1 implies eqb (p .sold .0) 0 in
+    let sold = leb (p .sold .0) (p .offer .0) in
+    let offer = leb (p .offer .0) quantityLimit in
+    let tested = leb-true (p .zone) zoneLimit (left-true zone first (left-true (zone && first) sold (left-true (zone && first && sold) offer all))) in
+    rw is at tested
+
+-- the price that an entry sees is sound
+pub hour-sound : (failed : Bool) (prices : List ℤ) (path : Path) → soundPrices failed prices ≡ true → path .zone ≤ zoneLimit → soundHour (hourAt failed prices path) ≡ true
+hour-sound true prices path h below = refl
+hour-sound false prices path h below =
+    let is : getD (take zones prices) (path .zone) (pos 0) ≡ getD prices (path .zone) (pos 0) =
+    getD-take zones prices (path .zone) (pos 0) (omega arith)
+    in
+    rw is at (every-at-any soundPrice (take zones prices) (path .zone) (pos 0) h refl)
+
+-- one entry more is credited
+credited-snoc : (earns : Entry → ℕ) (amounts : List ℕ) (es : List Entry) (e : Entry) → credited earns amounts (es ++ (e ∷ [])) ≡ credit (credited earns amounts es) (e .bidder) (earns e)
+credited-snoc earns amounts [] e = refl
+credited-snoc earns amounts (x ∷ es) e = credited-snoc earns (credit amounts (x .bidder) (earns x)) es e
+
+pub credited-more : (earns : Entry → ℕ) (amounts : List ℕ) (words : List ℕ) (i : ℕ) → credited earns amounts (entriesOf words (i + 1)) ≡ credit (credited earns amounts (entriesOf words i)) (entryAt words i .bidder) (earns (entryAt words i))
+credited-more earns amounts words i =
+    ap (credited earns amounts) (entries-more words i) ∙ credited-snoc earns amounts (entriesOf words i) (entryAt words i)
+
+-- a credit adds to the total
+pub credit-total : (amounts : List ℕ) (bidder cents : ℕ) → bidder < length amounts → total (credit amounts bidder cents) ≡ total amounts + cents
+credit-total amounts bidder cents h =
+    omega (arith, total-set amounts bidder (getD amounts bidder 0 + cents) h)
+
+pub credit-length : (amounts : List ℕ) (bidder cents : ℕ) → length (credit amounts bidder cents) ≡ length amounts
+credit-length amounts bidder cents = length-set amounts bidder (getD amounts bidder 0 + cents)
+
+-- what an entry earns is within the limits of a quantity and of a price
+pub product-within : {q r : ℕ} → q ≤ quantityLimit → r ≤ zonePriceLimit → q * r ≤ quantityLimit * zonePriceLimit
+product-within p h = mul-le-mul p h
+
+-- each counted entry of a sound register is within its bounds
+pub counted-within : (paths : ℕ) (words : List ℕ) (n i : ℕ) → every (soundEntry paths) (entriesOf words n) ≡ true → i < n → EntryBounds paths (entryAt words i)
+counted-within paths words n i h below =
+    let es = entriesOf words n in
+    let e = entryAt words i in
+    let is : getD es i e ≡ e = entries-at words n i e below in
+    entry-bounds paths e
+    (ap (soundEntry paths) (sym is) ∙ every-within (soundEntry paths) es i e (omega (arith, entries-length words n)) h)

@@ -1,0 +1,2 @@
+-- The rule of payout.
+pub mod Payout

@@ -1,0 +1,116 @@
+-- Document 01, "Payout for one hour: a day, and the hour is failed or priced with 16 zone prices of −10^6 to 10^6 cents."
+use mathlib.Core.Bool.{Bool, true, false, cond, not, _&&_}
+use mathlib.Core.List.{List, [], _∷_, _++_}
+use Prim.Native.Nat.{ℕ, _+_, _*_}
+use lib.Dec.{leb, eqb}
+use lib.IntN.{ℤ, pos, negsuc, negℤ, _-ℤ_}
+use lib.ListN.{length, getD, set, take, drop, replicate}
+use lib.Signed.{leZ}
+use Rattle.market.specs.Answers.{Row, _gives_, firstOf, answered, decided, decidedList}
+use Rattle.market.specs.Books.{every, balance, noPath, withAccount}
+use Rattle.market.specs.Limits.{bidderLimit, issued, dayLimit, zones, zonePriceLimit}
+use Rattle.market.specs.Sound.{soundAccount}
+use Rattle.market.specs.declared.answer.Outcome.{Outcome}
+use Rattle.market.specs.declared.book.Book.{Book}
+use Rattle.market.specs.declared.book.Direction.{Direction}
+use Rattle.market.specs.declared.book.Direction.the-variants.{Export, Import}
+use Rattle.market.specs.declared.book.Entry.{Entry}
+use Rattle.market.specs.declared.book.Path.{Path}
+use Rattle.market.specs.declared.units.Day.{Day}
+use Rattle.register.specs.Refusals.{registerRefusals, countedEntries}
+use Rattle.sharing.specs.Sharing.{total}
+use Rattle.payout.specs.declared.hour.Hour.{Hour}
+use Rattle.payout.specs.declared.hour.Hour.the-variants.{Failed, Priced}
+
+-- "max(0, p)"
+abbrev pub aboveZero : ℤ → ℕ
+aboveZero (pos n) = n
+aboveZero (negsuc n) = 0
+
+-- "MW × max(0, p) on an X path, MW × max(0, −p) on an M path": what one MW earns; "A failed hour earns 0"
+abbrev pub rate : Hour → Direction → ℕ
+rate Failed way = 0
+rate (Priced p) Export = aboveZero (p .0)
+rate (Priced p) Import = aboveZero (negℤ (p .0))
+
+-- "p the price at the path's zone outside Ontario": the hour as an entry on the path sees it
+abbrev pub hourAt : Bool → List ℤ → Path → Hour
+hourAt true prices path = Failed
+hourAt false prices path = Priced (balance (getD prices (path .zone) (pos 0)))
+
+-- the path of a number
+abbrev pub pathOf : Book → ℕ → Path
+pathOf b i = getD (b .paths) i noPath
+
+-- "Each issued entry valid that day"
+abbrev pub paysOn : Day → Entry → Bool
+paysOn day e =
+    eqb (e .state) issued && leb (e .period .first .0) (day .0) && leb (day .0) (e .period .last .0)
+
+-- what an entry earns in the hour
+abbrev pub earned : Book → Day → Bool → List ℤ → Entry → ℕ
+earned b day failed prices e =
+    cond (paysOn day e)
+    (e .quantity .0 * rate (hourAt failed prices (pathOf b (e .path))) (pathOf b (e .path) .direction))
+    0
+
+-- "The sums go to a lent list of 32 amounts": each entry is credited to its bidder
+abbrev pub credit : List ℕ → ℕ → ℕ → List ℕ
+credit amounts bidder cents = set amounts bidder (getD amounts bidder 0 + cents)
+
+abbrev pub credited : (Entry → ℕ) → List ℕ → List Entry → List ℕ
+credited earns amounts [] = amounts
+credited earns amounts (e ∷ es) = credited earns (credit amounts (e .bidder) (earns e)) es
+
+unfoldable pub amountsOf : Book → Day → Bool → List ℤ → List Entry → List ℕ
+amountsOf b day failed prices es = credited (earned b day failed prices) (replicate bidderLimit 0) es
+
+-- "the account pays and may go below 0"
+abbrev pub accountPaying : Book → Day → Bool → List ℤ → List Entry → ℤ
+accountPaying b day failed prices es = b .account .0 -ℤ pos (total (amountsOf b day failed prices es))
+
+-- "16 zone prices of −10^6 to 10^6 cents"
+abbrev pub soundPrice : ℤ → Bool
+soundPrice p = leZ (negℤ (pos zonePriceLimit)) p && leZ p (pos zonePriceLimit)
+
+-- the price that an entry sees is within these; a failed hour has none
+abbrev pub soundHour : Hour → Bool
+soundHour Failed = true
+soundHour (Priced p) = soundPrice (p .0)
+
+-- "A failed hour .., its lent prices untested."
+abbrev pub soundPrices : Bool → List ℤ → Bool
+soundPrices true prices = true
+soundPrices false prices = every soundPrice (take zones prices)
+
+-- 1 "a lent buffer shorter than stated": the 16 prices, and the 32 amounts
+abbrev pub lentRefusals : List ℤ → List ℕ → List Row
+lentRefusals prices amounts =
+    (not (leb zones (length prices)) gives 1) ∷ (not (leb bidderLimit (length amounts)) gives 1) ∷ []
+
+-- 21 "a day over 65,535"; 30 "bad zone price"
+abbrev pub hourRefusals : Day → Bool → List ℤ → List Row
+hourRefusals day failed prices =
+    (not (leb (day .0) dayLimit) gives 21) ∷ (not (soundPrices failed prices) gives 30) ∷ []
+
+-- 31 "account beyond ±10^15"
+abbrev pub accountRefusals : Book → List Entry → Day → Bool → List ℤ → List Row
+accountRefusals b es day failed prices =
+    (not (soundAccount (accountPaying b day failed prices es)) gives 31) ∷ []
+
+-- the whole, in the paper's order: 1, 2, 21, 30, 31
+abbrev pub payoutTable : Book → List ℕ → Day → Bool → List ℤ → List ℕ → List Row
+payoutTable b words day failed prices amounts =
+    (lentRefusals prices amounts ++ registerRefusals b words)
+    ++ (hourRefusals day failed prices ++ accountRefusals b (countedEntries b words) day failed prices)
+
+unfoldable pub payout : Book → List ℕ → Day → Bool → List ℤ → List ℕ → Outcome
+payout b words day failed prices amounts =
+    decided b (firstOf (payoutTable b words day failed prices amounts))
+    (answered (withAccount b (accountPaying b day failed prices (countedEntries b words))))
+
+-- the lent amounts after it: all 32 are written, and words past them stay
+unfoldable pub payoutAmounts : Book → List ℕ → Day → Bool → List ℤ → List ℕ → List ℕ
+payoutAmounts b words day failed prices amounts =
+    decidedList amounts (firstOf (payoutTable b words day failed prices amounts))
+    (amountsOf b day failed prices (countedEntries b words) ++ drop bidderLimit amounts)
