@@ -1,8 +1,10 @@
 -- What a sound book gives, part by part.
 use mathlib.Core.Path.{_≡_}
 use mathlib.Core.Bool.{true, _&&_, or-true}
+use mathlib.Core.List.{List}
 use Prim.Native.Nat.{ℕ, _≤_}
 use lib.Dec.{leb, eqb}
+use lib.ListN.{getD}
 use borrow.Author.Tests.{leb-true}
 use Rattle.market.proofs.Every.{every-at-any}
 use Rattle.market.proofs.Tests.{left-true, right-true}
@@ -61,7 +63,7 @@ pub record BidderBounds (x : Bidder) : Type 0 where
   pub owed : x .owed .0 ≤ owedLimit
   pub step : x .step ≤ stepLimit
 
-bidder-bounds : (round : ℕ) (x : Bidder) → soundBidder round x ≡ true → BidderBounds x
+pub bidder-bounds : (round : ℕ) (x : Bidder) → soundBidder round x ≡ true → BidderBounds x
 bidder-bounds round x h =
     let one = eqb round 1 implies noValue x in
     let two = eqb round 2 implies leb (x .owed .0) roundTwoOwedLimit in
@@ -85,6 +87,10 @@ bidder-bounds round x h =
 -- a bidder with nothing is sound at every round
 nothing-sound : (round : ℕ) → soundBidder round noBidder ≡ true
 nothing-sound round = simp or-true
+
+-- bidders within the bounds, at every number
+abbrev pub AllWithin : List Bidder → Type 0
+AllWithin bidders = (i : ℕ) → BidderBounds (getD bidders i noBidder)
 
 -- every number of a sound book has a bidder within the bounds
 pub bidder-within : (b : Book) (i : ℕ) → soundBook b ≡ true → BidderBounds (bidderOf b i)

@@ -66,6 +66,10 @@ noValue x = eqb (valueOf x) 0
 abbrev pub heldOf : Bidder → ℕ
 heldOf x = x .cash .0 + x .applied .0
 
+-- amounts by bidder, with more for one of them
+abbrev pub credit : List ℕ → ℕ → ℕ → List ℕ
+credit amounts bidder cents = set amounts bidder (getD amounts bidder 0 + cents)
+
 -- a bidder with another cash, or another letter
 abbrev pub withCash : Bidder → ℕ → Bidder
 withCash x n =

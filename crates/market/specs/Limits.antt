@@ -1,5 +1,6 @@
 -- The limits of document 01, each named here once. `Engine` has the same as associated constants.
-use Prim.Native.Nat.{ℕ, _*_, _^_}
+use mathlib.Core.List.{List, [], _∷_}
+use Prim.Native.Nat.{ℕ, _+_, _*_, _^_}
 
 -- "The release number (first 1), the rule edition (first 1)"
 abbrev pub release : ℕ
@@ -78,9 +79,35 @@ laminationLimit = 20
 abbrev pub priceLimit : ℕ
 priceLimit = 10 ^ 8
 
+-- "bidder, path, stamp, n", then "pairs of price and MW"
+abbrev pub headerWords : ℕ
+headerWords = 4
+
+abbrev pub pairWords : ℕ
+pairWords = 2
+
+-- "steps 0 to 3 give 10, 8, 5, 1"
+abbrev pub multipliers : List ℕ
+multipliers = 10 ∷ 8 ∷ 5 ∷ 1 ∷ []
+
+-- so much a bidding limit is at most, from the greatest multiplier, cash and letter
+abbrev pub biddingLimitTop : ℕ
+biddingLimitTop = 10 * (moneyLimit + moneyLimit)
+
+-- "1 admitted or 0 over"
+abbrev pub admitted : ℕ
+admitted = 1
+
+abbrev pub over : ℕ
+over = 0
+
 -- "bid list over 4,096 words"
 abbrev pub bidListWords : ℕ
 bidListWords = 4096
+
+-- so many bids such a list can have, since a bid has a header and a pair at least
+abbrev pub bidLimit : ℕ
+bidLimit = 682
 
 -- "2,728 for bids", four words each; "48 for paths", three words each
 abbrev pub bidAnswerWords : ℕ

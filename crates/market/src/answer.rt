@@ -22,6 +22,12 @@ impl Refusal {
     pub const WITHDRAWAL: u32 = 12;
 
     pub const PAYMENT: u32 = 13;
+
+    pub const BID: u32 = 14;
+
+    pub const SECOND_BID: u32 = 15;
+
+    pub const STAMP: u32 = 16;
     // The auction desk's.
     pub const STAGE: u32 = 20;
 

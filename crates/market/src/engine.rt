@@ -52,7 +52,21 @@ impl Engine {
     // The auction.
     pub const LAMINATIONS: u32 = 20;
 
-    pub const PRICE_LIMIT: u32 = 100_000_000;
+    pub const PRICE_LIMIT: u64 = 100_000_000;
+
+    pub const MULTIPLIERS: [u64; 4] = [10, 8, 5, 1];
+
+    pub const ADMITTED: u32 = 1;
+
+    pub const OVER: u32 = 0;
+
+    pub const HEADER_WORDS: usize = 4;
+
+    pub const PAIR_WORDS: usize = 2;
+
+    pub const BIDS: usize = 682;
+
+    pub const PAIRS: usize = Engine::BIDDERS * Engine::PATHS;
 
     pub const BID_LIST_WORDS: usize = 4_096;
 

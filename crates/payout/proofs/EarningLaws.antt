@@ -13,7 +13,7 @@ use borrow.Author.Tests.{leb-true}
 use Rattle.market.proofs.Every.{every-at-any, every-within}
 use Rattle.market.proofs.SoundLaws.{sound-parts}
 use Rattle.market.proofs.Tests.{left-true}
-use Rattle.market.specs.Books.{every, _implies_, noPath}
+use Rattle.market.specs.Books.{every, _implies_, noPath, credit}
 use Rattle.market.specs.Limits.{zoneLimit, quantityLimit, zones, zonePriceLimit}
 use Rattle.market.specs.Sound.{roundOf, soundPath, soundBook}
 use Rattle.market.specs.declared.book.Book.{Book}
@@ -25,7 +25,7 @@ use Rattle.register.specs.Entries.{soundEntry}
 use Rattle.register.specs.Words.{entryAt, entriesOf}
 use Rattle.sharing.proofs.Totals.{total-set}
 use Rattle.sharing.specs.Sharing.{total}
-use Rattle.payout.specs.Payout.{hourAt, pathOf, credit, credited, soundPrice, soundPrices, soundHour}
+use Rattle.payout.specs.Payout.{hourAt, pathOf, credited, soundPrice, soundPrices, soundHour}
 
 -- a path of a sound book leads to a zone
 nothing-sound : (round : ℕ) → soundPath round noPath ≡ true

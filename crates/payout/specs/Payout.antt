@@ -4,10 +4,10 @@ use mathlib.Core.List.{List, [], _∷_, _++_}
 use Prim.Native.Nat.{ℕ, _+_, _*_}
 use lib.Dec.{leb, eqb}
 use lib.IntN.{ℤ, pos, negsuc, negℤ, _-ℤ_}
-use lib.ListN.{length, getD, set, take, drop, replicate}
+use lib.ListN.{length, getD, take, drop, replicate}
 use lib.Signed.{leZ}
 use Rattle.market.specs.Answers.{Row, _gives_, firstOf, answered, decided, decidedList}
-use Rattle.market.specs.Books.{every, balance, noPath, withAccount}
+use Rattle.market.specs.Books.{every, balance, noPath, credit, withAccount}
 use Rattle.market.specs.Limits.{bidderLimit, issued, dayLimit, zones, zonePriceLimit}
 use Rattle.market.specs.Sound.{soundAccount}
 use Rattle.market.specs.declared.answer.Outcome.{Outcome}
@@ -55,9 +55,6 @@ earned b day failed prices e =
     0
 
 -- "The sums go to a lent list of 32 amounts": each entry is credited to its bidder
-abbrev pub credit : List ℕ → ℕ → ℕ → List ℕ
-credit amounts bidder cents = set amounts bidder (getD amounts bidder 0 + cents)
-
 abbrev pub credited : (Entry → ℕ) → List ℕ → List Entry → List ℕ
 credited earns amounts [] = amounts
 credited earns amounts (e ∷ es) = credited earns (credit amounts (e .bidder) (earns e)) es

@@ -8,13 +8,14 @@ use market::units::Day;
 ghost use mathlib.Core.Path.{_≡_};
 ghost use mathlib.Core.Bool.{true};
 ghost use Prim.Native.Nat.{_+_, _*_, _≤_, _<_};
+ghost use Rattle.market.specs.Books.{credit};
 ghost use Rattle.market.specs.Limits.{pathLimit, bidderLimit, quantityLimit, zonePriceLimit, accountLimit};
 ghost use Rattle.market.specs.Sound.{soundBook};
 ghost use Rattle.register.proofs.Cleared.{Lent};
 ghost use Rattle.register.proofs.EntryLaws.{EntryBounds};
 ghost use Rattle.register.specs.Refusals.{countedEntries};
 ghost use Rattle.sharing.specs.Sharing.{total};
-ghost use Rattle.payout.specs.Payout.{pathOf, paysOn, earned, credit, amountsOf, soundPrices};
+ghost use Rattle.payout.specs.Payout.{pathOf, paysOn, earned, amountsOf, soundPrices};
 
 // The amounts of the bidders, and their sum.
 pub struct Sums {

@@ -4,12 +4,13 @@ use mathlib.Core.Path.{_≡_, refl, sym, _∙_, ap}
 use Prim.Native.Nat.{ℕ, _*_, _-_, _≤_, _<_}
 use native.Mathlib.Omega.{arith}
 use lib.ListN.{length, replicate}
+use Rattle.market.specs.Books.{credit}
 use Rattle.market.specs.Limits.{bidderLimit, quantityLimit, zonePriceLimit}
 use Rattle.market.specs.declared.book.Entry.{Entry}
 use Rattle.register.specs.Words.{entriesOf}
 use Rattle.sharing.specs.Sharing.{total}
 use Rattle.payout.proofs.EarningLaws.{credited-more, credit-total, credit-length, counted-within}
-use Rattle.payout.specs.Payout.{earned, credit, credited, amountsOf}
+use Rattle.payout.specs.Payout.{earned, credited, amountsOf}
 use Rattle.payout.proofs.parts.amounts_of.Statement.{statement}
 use Rattle.payout.proofs.parts.amounts_of.Tie as tie
 

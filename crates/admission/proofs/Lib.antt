@@ -1,0 +1,3 @@
+-- Laws about bidding limits and marks.
+pub mod LimitLaws
+pub mod MarkLaws

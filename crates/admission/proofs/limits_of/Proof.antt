@@ -1,0 +1,74 @@
+use borrow.Author.Needs.{needs}
+use native.Mathlib.Omega.{arith}
+use mathlib.Core.Path.{_≡_, refl, _∙_, ap}
+use mathlib.Core.List.{List}
+use Prim.Native.Nat.{ℕ, _≤_, _-_}
+use lib.ListN.{set}
+use Rattle.market.proofs.Filled.{filled, fill-next, all-filled}
+use Rattle.market.specs.Books.{noBidder}
+use Rattle.market.specs.Limits.{bidderLimit}
+use Rattle.admission.specs.Admission.{biddingLimit}
+use Rattle.admission.proofs.limits_of.Statement.{statement}
+use Rattle.admission.proofs.limits_of.Tie as tie
+
+abbrev Inv-loop : tie.InvT-loop
+Inv-loop bidders limits₀ i₀ limits i = (i ≤ bidderLimit) × (limits ≡ filled biddingLimit bidders bidderLimit 0 i)
+
+abbrev μ-loop : tie.MeasureT-loop
+μ-loop bidders limits₀ i₀ limits i = bidderLimit - i
+
+loop-holds : tie.Need-loop-holds Inv-loop μ-loop
+loop-holds c = (search needs, refl)
+
+mul-limit-of : tie.Need-mul-limit-of Inv-loop μ-loop
+mul-limit-of c = search needs
+
+array-copy-out-limit-of : tie.Need-array-copy-out-limit-of Inv-loop μ-loop
+array-copy-out-limit-of c = search needs
+
+limit-of-requires : tie.Need-limit-of-requires Inv-loop μ-loop
+limit-of-requires c κs = c .before .before .before .pre (c .before .before .loop .i)
+
+mul-limits : tie.Need-mul-limits Inv-loop μ-loop
+mul-limits c = search needs
+
+array-write-limits : tie.Need-array-write-limits Inv-loop μ-loop
+array-write-limits c = search needs
+
+add-i : tie.Need-add-i Inv-loop μ-loop
+add-i c = search needs
+
+loop-less : tie.Need-loop-less Inv-loop μ-loop
+loop-less c = search needs
+
+loop-again : tie.Need-loop-again Inv-loop μ-loop
+loop-again c = let bidders = c .before .before .before .before .args .t1 in
+    let at = c .before .before .before .loop in (
+      search needs,
+      ap (λ (l : List ℕ). set l (at .i) (c .limit-of .result)) (at .inv .1)
+          ∙ ap (set (filled biddingLimit bidders bidderLimit 0 (at .i)) (at .i)) (c .limit-of .ensures)
+          ∙ fill-next biddingLimit bidders bidderLimit 0 (at .i) noBidder (search needs) (search needs),
+    )
+
+returns : tie.Need-returns Inv-loop μ-loop
+returns c = let bidders = c .before .before .args .t1 in
+    let at = c .before .loop in
+    let all : at .i ≡ bidderLimit = omega arith in
+    at .inv .1 ∙ ap (filled biddingLimit bidders bidderLimit 0) all ∙ all-filled biddingLimit bidders bidderLimit 0 (search needs)
+
+pub limits-of-spec : {M : Type 1} → statement M
+limits-of-spec =
+    tie.close
+    (tie.spec
+    Inv-loop
+    μ-loop
+    loop-holds
+    mul-limit-of
+    array-copy-out-limit-of
+    limit-of-requires
+    mul-limits
+    array-write-limits
+    add-i
+    loop-less
+    loop-again
+    returns)

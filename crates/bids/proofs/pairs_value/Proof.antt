@@ -1,0 +1,80 @@
+use Rattle.market.specs.declared.units.Cents.{Cents}
+use borrow.Author.Needs.{needs}
+use native.Mathlib.Omega.{arith}
+use mathlib.Core.Path.{_≡_, sym, ap}
+use Prim.Native.Nat.{_≤_, _-_}
+use Rattle.market.specs.Books.{cents}
+use Rattle.bids.specs.Bids.{laminationValue}
+use Rattle.bids.proofs.ValueLaws.{AddedTo, none-added, all-added, sound-here, one-added}
+use Rattle.bids.proofs.pairs_value.Statement.{statement}
+use Rattle.bids.proofs.pairs_value.Tie as tie
+
+abbrev Inv-loop : tie.InvT-loop
+Inv-loop words at count sum₀ i₀ sum i = (i ≤ count) × AddedTo words at count i sum
+
+abbrev μ-loop : tie.MeasureT-loop
+μ-loop words at count sum₀ i₀ sum i = count - i
+
+loop-holds : tie.Need-loop-holds Inv-loop μ-loop
+loop-holds c = let a = c .before .args in (search needs, none-added (a .words .now) (a .at) (a .count) (c .before .pre .1 .1))
+
+cast-lamination-at : tie.Need-cast-lamination-at Inv-loop μ-loop
+cast-lamination-at c = search needs
+
+mul-lamination-at : tie.Need-mul-lamination-at Inv-loop μ-loop
+mul-lamination-at c = search needs
+
+add-lamination-at : tie.Need-add-lamination-at Inv-loop μ-loop
+add-lamination-at c = search needs
+
+lamination-at-requires : tie.Need-lamination-at-requires Inv-loop μ-loop
+lamination-at-requires c κs = search needs
+
+lamination-value-requires : tie.Need-lamination-value-requires Inv-loop μ-loop
+lamination-value-requires c κs = let a = c .before .before .before .before .args in
+    let at = c .before .before .loop in
+    let lam = c .lamination-at in sound-here (a .words .now) (a .at) (a .count) (at .i) (at .sum) (at .inv .1) (lam .result) (lam .ensures) (search needs)
+
+add-sum : tie.Need-add-sum Inv-loop μ-loop
+add-sum c = let a = c .before .before .before .before .before .before .args in
+    let at = c .before .before .before .before .loop in
+    let lam = c .before .before .lamination-at in
+    record { fits = omega (arith, at .inv .1 .within, c .before .lamination-value .ensures .1) }
+
+add-i : tie.Need-add-i Inv-loop μ-loop
+add-i c = search needs
+
+loop-less : tie.Need-loop-less Inv-loop μ-loop
+loop-less c = search needs
+
+loop-again : tie.Need-loop-again Inv-loop μ-loop
+loop-again c = let a = c .before .before .before .before .before .before .args in
+    let at = c .before .before .before .before .loop in
+    let lam = c .before .before .lamination-at in
+    let value : c .before .lamination-value .result .0 ≡ laminationValue (lam .result) = ap (λ (m : Cents). m .0) (c .before .lamination-value .ensures .0) in (
+      search needs,
+      rw (value) (one-added (a .words .now) (a .at) (a .count) (at .i) (at .sum) (at .inv .1) (lam .result) (lam .ensures) (search needs)),
+    )
+
+returns : tie.Need-returns Inv-loop μ-loop
+returns c = let a = c .before .before .before .args in
+    let at = c .before .loop in
+    (ap cents (sym (all-added (a .words .now) (a .at) (a .count) (at .i) (at .sum) (at .inv .1) (search needs))), omega (arith, at .inv .1 .within))
+
+pub pairs-value-spec : {M : Type 1} → statement M
+pairs-value-spec =
+    tie.close
+    (tie.spec
+    Inv-loop
+    μ-loop
+    loop-holds
+    cast-lamination-at
+    mul-lamination-at
+    add-lamination-at
+    lamination-at-requires
+    lamination-value-requires
+    add-sum
+    add-i
+    loop-less
+    loop-again
+    returns)
