@@ -56,9 +56,10 @@ fn long_offer(of: Quantities, out: Megawatts) -> u32
 {
     let base = of.base;
     let upper = of.upper;
-    let base_left = left(base.0, out.0);
+    let whole = base.0;
+    let base_left = left(whole, out.0);
     let upper_left = left(upper.0, out.0);
-    let quarter = base.0 / Engine::QUARTERS;
+    let quarter = whole / Engine::QUARTERS;
     least(
         quarter,
         least(capability_of(of), least(base_left, upper_left)),
