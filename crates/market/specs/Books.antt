@@ -10,6 +10,7 @@ use Rattle.market.specs.declared.book.Bidder.{Bidder}
 use Rattle.market.specs.declared.book.Book.{Book}
 use Rattle.market.specs.declared.book.Direction.the-variants.{Export}
 use Rattle.market.specs.declared.book.Path.{Path}
+use Rattle.market.specs.declared.book.Stage.{Stage}
 use Rattle.market.specs.declared.units.Balance.{Balance}
 use Rattle.market.specs.declared.units.Cents.{Cents}
 use Rattle.market.specs.declared.units.Day.{Day}
@@ -111,4 +112,16 @@ withAccount b z =
       account = balance z;
       entries = b .entries;
       stage = b .stage;
+    }
+
+-- a book with the auction's part changed: its paths, and the stage
+abbrev pub withAuction : Book → List Path → Stage → Book
+withAuction b slots stage =
+    record {
+      paths = slots;
+      «path_count» = b .«path_count»;
+      bidders = b .bidders;
+      account = b .account;
+      entries = b .entries;
+      stage = stage;
     }

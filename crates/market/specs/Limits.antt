@@ -71,6 +71,14 @@ dayLimit = 65535
 
 -- ---- The auction
 
+-- "floor(base/4)", "floor(offer/4)"
+abbrev pub quarters : ℕ
+quarters = 4
+
+-- "per path a base quantity, a financial upper limit (FUL) and two expected capabilities A and B"
+abbrev pub quantityWords : ℕ
+quantityWords = 4
+
 -- "n is 1 to 20"
 abbrev pub laminationLimit : ℕ
 laminationLimit = 20

@@ -6,7 +6,7 @@ use crate::units::Day;
 use crate::units::Megawatts;
 ghost use mathlib.Core.Path.{_≡_};
 ghost use Prim.Native.Nat.{_<_};
-ghost use Rattle.market.specs.Books.{bidderOf, withBidder, withAccount, withEntries};
+ghost use Rattle.market.specs.Books.{bidderOf, withBidder, withAccount, withEntries, withAuction};
 ghost use Rattle.market.specs.Limits.{bidderLimit};
 ghost use Rattle.market.specs.Sound.{soundPathCount};
 
@@ -109,6 +109,22 @@ impl Book {
         let mut next = self;
         next.entries = entries;
         next
+    }
+
+    // The book with other paths and another stage.
+    pub fn with_auction(self, paths: [Path; Engine::PATHS], stage: Stage) -> Book
+        ensures { λ r. ⌜ r ≡ withAuction self paths stage ⌝ }
+    {
+        let bidders = self.bidders;
+        let account = self.account;
+        Book {
+            paths,
+            path_count: self.path_count,
+            bidders,
+            account,
+            entries: self.entries,
+            stage,
+        }
     }
 }
 

@@ -50,6 +50,10 @@ impl Engine {
     pub const ISSUED: u32 = 2;
 
     // The auction.
+    pub const QUARTERS: u32 = 4;
+
+    pub const QUANTITY_WORDS: usize = 4;
+
     pub const LAMINATIONS: u32 = 20;
 
     pub const PRICE_LIMIT: u64 = 100_000_000;

@@ -1,0 +1,2 @@
+-- Laws about what an auction offers.
+pub mod OfferLaws

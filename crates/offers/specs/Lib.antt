@@ -1,0 +1,2 @@
+-- The rules of what an auction offers of a path.
+pub mod Offers

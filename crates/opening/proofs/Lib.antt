@@ -1,0 +1,3 @@
+-- Laws about open.
+pub mod Cleared
+pub mod OpenedPaths

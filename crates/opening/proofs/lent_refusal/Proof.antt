@@ -1,0 +1,26 @@
+use Prim.Native.Nat.{_≤_, _<_}
+use lib.ListN.{length}
+use Rattle.opening.specs.Open.{wordsNeeded}
+use borrow.Author.Tests.{le-leb, lt-leb}
+use native.Mathlib.Omega.{arith}
+use borrow.Author.Needs.{needs}
+use Rattle.opening.proofs.lent_refusal.Statement.{statement}
+use Rattle.opening.proofs.lent_refusal.Tie as tie
+
+returns : tie.Need-returns
+returns c =
+    let a = c .before .before .before .args in
+    let short : length (a .quantities .now) < wordsNeeded (a .book) = omega arith in
+    rw (lt-leb _ _ short)
+
+refusal-requires : tie.Need-refusal-requires
+refusal-requires c κs = search needs
+
+returns-2 : tie.Need-returns-2
+returns-2 c =
+    let a = c .before .before .before .before .args in
+    let long : wordsNeeded (a .book) ≤ length (a .quantities .now) = omega arith in
+    rw (le-leb _ _ long) (c .refusal .ensures)
+
+pub lent-refusal-spec : {M : Type 1} → statement M
+lent-refusal-spec = tie.close (tie.spec returns refusal-requires returns-2)

@@ -1,0 +1,68 @@
+use mathlib.Core.Path.{refl, sym}
+use Prim.Native.Nat.{_≤_, _-_}
+use lib.ListN.{take}
+use borrow.Author.Needs.{needs}
+use borrow.Author.Tests.{le-leb, lt-leb}
+use Rattle.market.proofs.Tests.{Passed, pass-first, fail-first, passed-first}
+use Rattle.opening.specs.Open.{soundQuantity}
+use Rattle.opening.proofs.parts.all_sound.Statement.{statement}
+use Rattle.opening.proofs.parts.all_sound.Tie as tie
+
+abbrev Inv-loop : tie.InvT-loop
+Inv-loop quantities count i₀ i = (i ≤ count) × Passed soundQuantity (take count quantities) i
+
+abbrev μ-loop : tie.MeasureT-loop
+μ-loop quantities count i₀ i = count - i
+
+loop-holds : tie.Need-loop-holds Inv-loop μ-loop
+loop-holds c = (search needs, refl)
+
+mul-if1 : tie.Need-mul-if1 Inv-loop μ-loop
+mul-if1 c = search needs
+
+shared-slice-read-if1 : tie.Need-shared-slice-read-if1 Inv-loop μ-loop
+shared-slice-read-if1 c = search needs
+
+returns : tie.Need-returns Inv-loop μ-loop
+returns c =
+    let a = c .before .before .before .before .args in
+    let at = c .before .before .before .loop in
+    sym
+    (fail-first soundQuantity (a .quantities .now) (a .count) (search needs) (at .i) 0 (search needs) (at .inv .1)
+    (lt-leb _ _ (c .if1 .taken)))
+
+add-i : tie.Need-add-i Inv-loop μ-loop
+add-i c = search needs
+
+loop-less : tie.Need-loop-less Inv-loop μ-loop
+loop-less c = search needs
+
+loop-again : tie.Need-loop-again Inv-loop μ-loop
+loop-again c =
+    let a = c .before .before .before .before .args in
+    let at = c .before .before .before .loop in (
+      search needs,
+      pass-first soundQuantity (a .quantities .now) (a .count) (search needs) (at .i) 0 (search needs) (at .inv .1)
+          (le-leb _ _ (c .if1 .left)),
+    )
+
+returns-2 : tie.Need-returns-2 Inv-loop μ-loop
+returns-2 c =
+    let a = c .before .before .args in
+    let at = c .before .loop in
+    sym (passed-first soundQuantity (a .quantities .now) (a .count) (search needs) (at .i) 0 (search needs) (at .inv .1))
+
+pub all-sound-spec : {M : Type 1} → statement M
+all-sound-spec =
+    tie.close
+    (tie.spec
+    Inv-loop
+    μ-loop
+    loop-holds
+    mul-if1
+    shared-slice-read-if1
+    returns
+    add-i
+    loop-less
+    loop-again
+    returns-2)

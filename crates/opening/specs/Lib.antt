@@ -1,0 +1,2 @@
+-- The rule of open.
+pub mod Open
