@@ -1,0 +1,6 @@
+-- Laws about awards.
+pub mod Lots
+pub mod OrderLaws
+pub mod LeftLaws
+pub mod WalkLaws
+pub mod ValueLaws
