@@ -4,3 +4,4 @@ pub mod OrderLaws
 pub mod LeftLaws
 pub mod WalkLaws
 pub mod ValueLaws
+pub mod PriceLaws
