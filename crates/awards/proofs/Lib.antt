@@ -5,3 +5,6 @@ pub mod LeftLaws
 pub mod WalkLaws
 pub mod ValueLaws
 pub mod PriceLaws
+pub mod BidLots
+pub mod RoundLots
+pub mod FillLaws
