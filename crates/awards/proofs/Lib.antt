@@ -8,3 +8,5 @@ pub mod PriceLaws
 pub mod BidLots
 pub mod RoundLots
 pub mod FillLaws
+pub mod RoundLaws
+pub mod BestAward

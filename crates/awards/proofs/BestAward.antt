@@ -1,0 +1,2 @@
+-- The awards of a round.
+use mathlib.Core.Path.{_≡_}
