@@ -9,4 +9,5 @@ pub mod BidLots
 pub mod RoundLots
 pub mod FillLaws
 pub mod RoundLaws
+pub mod Filling
 pub mod BestAward

@@ -98,7 +98,7 @@ pub record InRound (first next : ℕ) (l : Lot) : Type 0 where
   pub top : l .price ≤ priceLimit
 
 -- where the bid after one stands
-abbrev nextAt : ℕ → Bid → ℕ
+abbrev pub nextAt : ℕ → Bid → ℕ
 nextAt at b = at + headerWords + length (b .laminations) * pairWords
 
 pub lots-from : (n at : ℕ) (bs : List Bid) (marks : List ℕ) → EachBid SoundPairs n bs → Each (InRound n (n + length bs)) (lotsFrom n at bs marks) × Strict (lotsFrom n at bs marks)
