@@ -119,3 +119,27 @@ sums-by-bid f g awards bs below h =
     all (a ∷ rest) =
         let here = ap (λ (t : Bool). cond t (f a) 0) (le-leb 0 (a .lot .bid) (omega arith)) in
         omega (arith, here, all rest)
+
+-- of what a path sold, a bid's part is all that it won, or nothing
+pub path-part : (bid own path : ℕ) (awards : List Award) → EachAward (λ a. a .lot .bid ≡ bid → a .lot .path ≡ own) awards → ofOne (λ a. cond (eqb (a .lot .path) path) (a .taken) 0) bid awards ≡ cond (eqb own path) (wonBy bid awards) 0
+path-part bid own path [] on = none (eqb own path)
+  where
+    none : (t : Bool) → _≡_ {A = ℕ} 0 (cond t 0 0)
+    none true = refl
+    none false = refl
+path-part bid own path (a ∷ awards) on =
+    both (eqb own path) (cond (eqb (a .lot .bid) bid) (cond (eqb (a .lot .path) path) (a .taken) 0) 0)
+    (ofOne (λ c. cond (eqb (c .lot .path) path) (c .taken) 0) bid awards) (cond (eqb (a .lot .bid) bid) (a .taken) 0) (wonBy bid awards)
+    (one (eqb (a .lot .bid) bid) (eqb own path) refl refl)
+    (path-part bid own path awards (on .1))
+  where
+    one : (t u : Bool) → eqb (a .lot .bid) bid ≡ t → eqb own path ≡ u → cond t (cond (eqb (a .lot .path) path) (a .taken) 0) 0 ≡ cond u (cond t (a .taken) 0) 0
+    one true u x y =
+        ap (λ (p : ℕ). cond (eqb p path) (a .taken) 0) (on .0 (eqb-true (a .lot .bid) bid x))
+        ∙ ap (λ (t : Bool). cond t (a .taken) 0) y
+    one false true x y = refl
+    one false false x y = refl
+
+    both : (u : Bool) (x x′ y y′ : ℕ) → x ≡ cond u y 0 → x′ ≡ cond u y′ 0 → x + x′ ≡ cond u (y + y′) 0
+    both true x x′ y y′ p q = ap₂ _+_ p q
+    both false x x′ y y′ p q = ap₂ _+_ p q
