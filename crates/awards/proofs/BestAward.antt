@@ -1,17 +1,17 @@
 -- The awards of a round, against document 01: for bids that a round takes, any marks of the bids, and any offer of each path.
-use mathlib.Core.Path.{_≡_, refl, sym, _∙_, ap, subst}
-use mathlib.Core.Bool.{Bool, true, false, cond}
-use mathlib.Core.List.{List, [], _∷_}
-use Prim.Native.Nat.{ℕ, zero, suc, _+_, _*_, _≤_, _<_}
+use mathlib.Core.Path.{_≡_, sym, _∙_, subst}
+use mathlib.Core.Bool.{true, false, cond}
+use mathlib.Core.List.{List, []}
+use Prim.Native.Nat.{ℕ, _+_, _*_, _≤_, _<_}
 use native.Mathlib.Omega.{arith}
 use lib.Dec.{eqb}
 use lib.ListN.{length, getD}
 use Rattle.market.specs.Limits.{admitted, priceLimit}
 use Rattle.bids.specs.Bids.{Bid}
 use Rattle.bids.specs.Encoding.{rightBids}
-use Rattle.awards.specs.Awards.{Lot, Award, lotsOf, inOrder, walk, awardsOf, sumOf, wonBy, soldOn, priceOn, chargeOf}
-use Rattle.awards.specs.Rivals.{Each, Rival, givenOn, Legal, rivalValue, filledValue, valueFrom, totalValue}
-use Rattle.awards.proofs.Lots.{each-map, EachAward, award-map}
+use Rattle.awards.specs.Awards.{Lot, Award, lotsOf, inOrder, awardsOf, wonBy, soldOn, priceOn, chargeOf}
+use Rattle.awards.specs.Rivals.{Each, Rival, Legal, rivalValue, filledValue, totalValue}
+use Rattle.awards.proofs.Lots.{each-map, EachAward}
 use Rattle.awards.proofs.OrderLaws.{sum-order, each-order, falling-order}
 use Rattle.awards.proofs.WalkLaws.{sold-within, taken-within, each-walk}
 use Rattle.awards.proofs.ValueLaws.{valueOf, best-in-order}

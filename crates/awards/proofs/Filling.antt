@@ -99,14 +99,13 @@ filled-at : (bid path won place : ℕ) (ls : List Lamination) → Fills (filledA
 filled-at bid path won place [] = tt
 filled-at bid path won place (l ∷ ls) =
     let here = min (l .quantity .0) won in
-    let later = filledAt (won - here) (place + pairWords) ls in
-    (
+    let later = filledAt (won - here) (place + pairWords) ls in (
       ap (λ (t : Bool). cond t here (later place)) (eq-eqb place place refl),
       fills-alike later (filledAt won place (l ∷ ls)) (won - here) (lotsIn bid path (place + pairWords) ls)
-        (each-map {P = Within (place + pairWords) (place + pairWords + length ls * pairWords)} {Q = λ m. filledAt won place (l ∷ ls) (m .place) ≡ later (m .place)}
-        (λ m w. ap (λ (t : Bool). cond t here (later (m .place))) (ne-eqb (m .place) place (λ same. omega (arith, same, w .low)))) (lotsIn bid path (place + pairWords) ls)
-        (places-in bid path (place + pairWords) ls))
-        (filled-at bid path (won - here) (place + pairWords) ls),
+          (each-map {P = Within (place + pairWords) (place + pairWords + length ls * pairWords)} {Q = λ m. filledAt won place (l ∷ ls) (m .place) ≡ later (m .place)}
+          (λ m w. ap (λ (t : Bool). cond t here (later (m .place))) (ne-eqb (m .place) place (λ same. omega (arith, same, w .low)))) (lotsIn bid path (place + pairWords) ls)
+          (places-in bid path (place + pairWords) ls))
+          (filled-at bid path (won - here) (place + pairWords) ls),
     )
 
 on-path : (bid path place : ℕ) (ls : List Lamination) → Each (λ l. l .path ≡ path) (lotsIn bid path place ls)

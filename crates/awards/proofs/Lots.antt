@@ -1,19 +1,12 @@
--- Laws about a fact of each lot, and about sums over a list.
-use mathlib.Core.Path.{_≡_, refl}
+-- Laws about a fact of each lot, and of each award.
 use mathlib.Core.List.{List, [], _∷_, _++_}
-use Prim.Native.Nat.{ℕ, _+_, _≤_}
-use native.Mathlib.Omega.{arith}
-use Rattle.awards.specs.Awards.{Lot, Award, sumOf}
+use Rattle.awards.specs.Awards.{Lot, Award}
 use Rattle.awards.specs.Rivals.{Each}
 
 -- a fact that follows from another, of each lot
 pub each-map : {P Q : Lot → Type 0} → ((l : Lot) → P l → Q l) → (ls : List Lot) → Each P ls → Each Q ls
 each-map f [] h = tt
 each-map f (l ∷ ls) h = (f l (h .0), each-map f ls (h .1))
-
-pub each-all : {P : Lot → Type 0} → ((l : Lot) → P l) → (ls : List Lot) → Each P ls
-each-all f [] = tt
-each-all f (l ∷ ls) = (f l, each-all f ls)
 
 pub each-append : (P : Lot → Type 0) (ls ms : List Lot) → Each P ls → Each P ms → Each P (ls ++ ms)
 each-append P [] ms h k = k
@@ -27,12 +20,3 @@ EachAward holds (a ∷ awards) = holds a × EachAward holds awards
 pub award-map : {P Q : Award → Type 0} → ((a : Award) → P a → Q a) → (awards : List Award) → EachAward P awards → EachAward Q awards
 award-map f [] h = tt
 award-map f (a ∷ awards) h = (f a (h .0), award-map f awards (h .1))
-
--- sums of numbers that are equal, or one at most the other, for each award
-pub sum-same : (f g : Award → ℕ) (awards : List Award) → EachAward (λ a. f a ≡ g a) awards → sumOf f awards ≡ sumOf g awards
-sum-same f g [] h = refl
-sum-same f g (a ∷ awards) h = omega (arith, h .0, sum-same f g awards (h .1))
-
-pub sum-most : (f g : Award → ℕ) (awards : List Award) → EachAward (λ a. f a ≤ g a) awards → sumOf f awards ≤ sumOf g awards
-sum-most f g [] h = omega arith
-sum-most f g (a ∷ awards) h = omega (arith, h .0, sum-most f g awards (h .1))

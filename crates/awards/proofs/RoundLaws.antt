@@ -2,23 +2,22 @@
 use mathlib.Core.Path.{_≡_, refl, sym, _∙_, ap, ap₂, subst}
 use mathlib.Core.Bool.{Bool, true, false, cond}
 use mathlib.Core.List.{List, [], _∷_}
-use Prim.Native.Nat.{ℕ, _+_, _*_, _≤_, _<_}
+use Prim.Native.Nat.{ℕ, _+_, _<_}
 use native.Mathlib.Omega.{arith}
 use lib.Dec.{eqb, leb}
 use lib.ListN.{length, getD}
-use borrow.Author.Tests.{le-leb, lt-leb, leb-true, leb-false, eq-eqb, ne-eqb, eqb-true, eqb-false}
+use borrow.Author.Tests.{le-leb, lt-leb, leb-true, leb-false, eqb-true, eqb-false}
 use Rattle.market.specs.Limits.{headerWords, admitted}
 use Rattle.bids.specs.Bids.{Bid}
 use Rattle.bids.specs.Faults.{abovePrices}
-use Rattle.awards.specs.Awards.{Lot, Award, lotsIn, lotsOfBid, inOrder, walk, sumOf, wonBy, soldOn}
+use Rattle.awards.specs.Awards.{Lot, Award, lotsIn, lotsOfBid, inOrder, walk, sumOf, wonBy}
 use Rattle.awards.specs.Rivals.{Each, filledValue, valueFrom}
-use Rattle.awards.proofs.Lots.{each-map, EachAward, award-map, sum-same}
+use Rattle.awards.proofs.Lots.{each-map, EachAward, award-map}
 use Rattle.awards.proofs.OrderLaws.{each-order}
 use Rattle.awards.proofs.WalkLaws.{each-walk}
-use Rattle.awards.proofs.ValueLaws.{valueOf}
 use Rattle.awards.proofs.PriceLaws.{wonValue}
 use Rattle.awards.proofs.BidLots.{ofBid, each-of, Strict, of-order}
-use Rattle.awards.proofs.RoundLots.{EachBid, bids-map, InBid, lots-of-bid, Own}
+use Rattle.awards.proofs.RoundLots.{EachBid, InBid, lots-of-bid, Own}
 use Rattle.awards.proofs.FillLaws.{won-within, filledLots, filled-in, filled-none, fills}
 
 -- ---- One bid

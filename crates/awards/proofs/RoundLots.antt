@@ -1,5 +1,5 @@
 -- The lots of a round's bids: which are whose, and what is known of them.
-use mathlib.Core.Path.{_≡_, refl, sym, _∙_, ap, ap₂, subst}
+use mathlib.Core.Path.{_≡_, refl, _∙_, ap, ap₂, subst}
 use mathlib.Core.Bool.{Bool, true, false, cond, not, _&&_}
 use mathlib.Core.List.{List, [], _∷_, _++_, append-nil}
 use Prim.Native.Nat.{ℕ, zero, suc, _+_, _*_, _≤_, _<_}
@@ -10,10 +10,10 @@ use borrow.Author.Tests.{leb-true, ltb-true}
 use Rattle.market.proofs.Tests.{left-true, right-true}
 use Rattle.market.specs.Limits.{headerWords, pairWords, admitted, priceLimit, quantityLimit}
 use Rattle.bids.specs.Bids.{Bid, headerOf}
-use Rattle.bids.specs.Encoding.{rightAfter, rightBids}
+use Rattle.bids.specs.Encoding.{rightAfter}
 use Rattle.bids.specs.Faults.{soundLamination, soundLaminations, abovePrices, soundHeader, soundBid, hasBid, stampOf}
 use Rattle.bids.specs.declared.Lamination.{Lamination}
-use Rattle.awards.specs.Awards.{Lot, lotsIn, lotsOfBid, lotsFrom, lotsOf}
+use Rattle.awards.specs.Awards.{Lot, lotsIn, lotsOfBid, lotsFrom}
 use Rattle.awards.specs.Rivals.{Each}
 use Rattle.awards.proofs.Lots.{each-map, each-append}
 use Rattle.awards.proofs.BidLots.{ofBid, of-append, of-all, of-none, Above, Strict, strict-append}
@@ -57,10 +57,11 @@ lots-in bid path place before (l ∷ ls) h =
     let some : 1 ≤ p = leb-true 1 p (left-true t1 t2 (left-true (t1 && t2) t3 (left-true (t1 && t2 && t3) t4 (left-true (soundLamination l) (ltb p before) here)))) in
     let falls : p < before = ltb-true p before (right-true (soundLamination l) (ltb p before) here) in
     let rest = lots-in bid path (place + pairWords) p ls (right-true (soundLamination l && ltb p before) (soundLaminations p ls) h) in
-    let later = lotsIn bid path (place + pairWords) ls in
-    (
-      (record { of = refl; on = refl; below = falls; some = some },
-        each-map {P = InBid bid path p} {Q = InBid bid path before} (λ m i. record { of = i .of; on = i .on; below = omega (arith, i .below); some = i .some }) later (rest .0)),
+    let later = lotsIn bid path (place + pairWords) ls in (
+      (
+        record { of = refl; on = refl; below = falls; some = some },
+        each-map {P = InBid bid path p} {Q = InBid bid path before} (λ m i. record { of = i .of; on = i .on; below = omega (arith, i .below); some = i .some }) later (rest .0),
+      ),
       (each-map {P = InBid bid path p} {Q = λ m. m .bid ≡ bid → m .price < p} (λ m i same. i .below) later (rest .0), rest .1),
     )
 
@@ -84,8 +85,7 @@ right-pairs paths n earlier (b ∷ bs) h =
     let t2 = not (hasBid (b .bidder) (b .path) earlier) in
     let t3 = leb (stampOf earlier) (b .stamp) in
     let t4 = rightAfter paths (b ∷ earlier) bs in
-    let sound : soundBid paths b ≡ true = left-true t1 t2 (left-true (t1 && t2) t3 (left-true (t1 && t2 && t3) t4 h)) in
-    (
+    let sound : soundBid paths b ≡ true = left-true t1 t2 (left-true (t1 && t2) t3 (left-true (t1 && t2 && t3) t4 h)) in (
       right-true (soundHeader paths (headerOf b)) (soundLaminations abovePrices (b .laminations)) sound,
       right-pairs paths (n + 1) (b ∷ earlier) bs (right-true (t1 && t2 && t3) t4 h),
     )
@@ -108,14 +108,13 @@ lots-from n at (b ∷ bs) marks h =
     let others = lotsFrom (n + 1) (nextAt at b) bs marks in
     let here = lots-of-bid n at b (getD marks n 0) (h .0) in
     let rest = lots-from (n + 1) (nextAt at b) bs marks (h .1) in
-    let all = InRound n (n + suc (length bs)) in
-    (
+    let all = InRound n (n + suc (length bs)) in (
       each-append all own others
-        (each-map {P = InBid n (b .path) abovePrices} {Q = all} (λ l i. record { from = omega (arith, i .of); to = omega (arith, i .of); some = i .some; top = omega (arith, i .below) }) own (here .0))
-        (each-map {P = InRound (n + 1) (n + 1 + length bs)} {Q = all} (λ l i. record { from = omega (arith, i .from); to = omega (arith, i .to); some = i .some; top = i .top }) others (rest .0)),
+          (each-map {P = InBid n (b .path) abovePrices} {Q = all} (λ l i. record { from = omega (arith, i .of); to = omega (arith, i .of); some = i .some; top = omega (arith, i .below) }) own (here .0))
+          (each-map {P = InRound (n + 1) (n + 1 + length bs)} {Q = all} (λ l i. record { from = omega (arith, i .from); to = omega (arith, i .to); some = i .some; top = i .top }) others (rest .0)),
       strict-append own others (here .1) (rest .1)
-        (each-map {P = InBid n (b .path) abovePrices} {Q = λ l. Each (Above l) others}
-        (λ l i. each-map {P = InRound (n + 1) (n + 1 + length bs)} {Q = Above l} (λ m j same. omega (arith, i .of, j .from, same)) others (rest .0)) own (here .0)),
+          (each-map {P = InBid n (b .path) abovePrices} {Q = λ l. Each (Above l) others}
+          (λ l i. each-map {P = InRound (n + 1) (n + 1 + length bs)} {Q = Above l} (λ m j same. omega (arith, i .of, j .from, same)) others (rest .0)) own (here .0)),
     )
 
 -- the lots of the bid with a number
@@ -130,8 +129,7 @@ own-lots n at (b ∷ bs) marks h =
     let own = lotsOfBid n at b (getD marks n 0) in
     let others = lotsFrom (n + 1) (nextAt at b) bs marks in
     let here = lots-of-bid n at b (getD marks n 0) (h .0) in
-    let rest = lots-from (n + 1) (nextAt at b) bs marks (h .1) in
-    (
+    let rest = lots-from (n + 1) (nextAt at b) bs marks (h .1) in (
       record {
         at = at;
         are =
@@ -142,13 +140,13 @@ own-lots n at (b ∷ bs) marks h =
         sound = h .0;
       },
       bids-map (Own others marks) (Own (own ++ others) marks) (n + 1) bs
-        (λ k c from mine. record {
-          at = mine .at;
-          are =
-              of-append k own others
-              ∙ ap (_++ ofBid k others) (of-none k own (each-map {P = InBid n (b .path) abovePrices} {Q = λ l. l .bid ≡ k → ⊥} (λ l i same. omega (arith, i .of, same, from)) own (here .0)))
-              ∙ mine .are;
-          sound = mine .sound;
-        })
-        (own-lots (n + 1) (nextAt at b) bs marks (h .1)),
+          (λ k c from mine. record {
+            at = mine .at;
+            are =
+                of-append k own others
+                ∙ ap (_++ ofBid k others) (of-none k own (each-map {P = InBid n (b .path) abovePrices} {Q = λ l. l .bid ≡ k → ⊥} (λ l i same. omega (arith, i .of, same, from)) own (here .0)))
+                ∙ mine .are;
+            sound = mine .sound;
+          })
+          (own-lots (n + 1) (nextAt at b) bs marks (h .1)),
     )

@@ -5,7 +5,7 @@ use Prim.Native.Nat.{ℕ, _+_, _≤_}
 use native.Mathlib.Omega.{arith}
 use native.Mathlib.Nat.{min-le-left, min-le-right}
 use lib.ListN.{getD}
-use Rattle.awards.specs.Awards.{Lot, Award, takenOf, leftAfter, walk, soldOn}
+use Rattle.awards.specs.Awards.{Lot, takenOf, leftAfter, walk, soldOn}
 use Rattle.awards.specs.Rivals.{Each}
 use Rattle.awards.proofs.Lots.{EachAward}
 use Rattle.awards.proofs.LeftLaws.{less-at}
