@@ -124,7 +124,8 @@ module _ (paths : ℕ) (offered : List ℕ) (bids : List Bid) (marks : List ℕ)
         shared = λ path. omega (arith, given .shared path, sold-is-won path, sold-within-offer path);
       }
 
-  -- "Bid value, in total ..., sums price × MW given": and has the total bid value that no rival's is above
+  -- "Bid value, in total or for what a bid won, sums price × MW given": and the round's total bid value is what it gives, so that
+  -- no rival's is above that of an award which is itself a rival
   pub award-value : rivalValue (filled (λ k. wonBy k (awardsOf offered bids marks)) bids) (lotsOf bids marks) ≡ totalValue (λ k. wonBy k (awardsOf offered bids marks)) bids
   award-value = given .value
 
