@@ -1,0 +1,1 @@
+// Awards: the order of laminations, what each takes, and what it comes to.
