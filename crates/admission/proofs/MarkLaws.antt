@@ -45,12 +45,18 @@ used-by false used i total = sym (set-getD used i 0)
 
 module _ (words limits marks used : List ℕ) (k at : ℕ) (m : MarkedTo words limits marks used k at) where
   -- every bid has its mark
+  pub all-counted : length words ≤ at → k ≡ length (bidsOf words)
+  all-counted end =
+      let none = walk-done pathLimit words k at (m .walk) end in
+      omega (arith, m .walk .counted, ap (λ (l : List Bid). length l) none)
+
   pub all-marked : length words ≤ at → marks ≡ marksOf limits (bidsOf words) ++ replicate (bidLimit - length (bidsOf words)) 0
   all-marked end =
       let none = walk-done pathLimit words k at (m .walk) end in
-      let count : k ≡ length (bidsOf words) = omega (arith, m .walk .counted, ap (λ (l : List Bid). length l) none) in
-      let whole : marksOf limits (bidsOf words) ≡ m .front = m .rest ∙ ap (λ (l : List Bid). m .front ++ marksFrom limits used l) none ∙ append-nil (m .front) in
-      m .stored ∙ ap₂ (λ (l : List ℕ) (n : ℕ). l ++ replicate (bidLimit - n) 0) (sym whole) count
+      let whole : marksOf limits (bidsOf words) ≡ m .front =
+      m .rest ∙ ap (λ (l : List Bid). m .front ++ marksFrom limits used l) none ∙ append-nil (m .front)
+      in
+      m .stored ∙ ap₂ (λ (l : List ℕ) (n : ℕ). l ++ replicate (bidLimit - n) 0) (sym whole) (all-counted end)
 
   module _ (inside : at < length words) (short : length words ≤ bidListWords) (tops : every withinTop limits ≡ true) where
     abbrev bid : Bid

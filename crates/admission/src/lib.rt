@@ -67,12 +67,19 @@ fn used_after(before: u64, total: u64, limit: u64) -> u64
     before
 }
 
-// The marks of the bids of a list, in list order; past the last bid each is 0. `used` has the values admitted so far.
-pub fn marks_of(words: &[u32], limits: [u64; Engine::BIDDERS]) -> [u32; Engine::BIDS]
+// The marks of a round's bids, in list order and 0 past the last, and the number of bids.
+pub struct Marks {
+    pub marks: [u32; Engine::BIDS],
+    pub bids: usize,
+}
+
+// The marks of the bids of a list. `used` has the values admitted so far.
+pub fn marks_of(words: &[u32], limits: [u64; Engine::BIDDERS]) -> Marks
     requires { ⌜ length (now words) ≤ bidListWords ⌝ }
     requires { ⌜ soundList pathLimit (now words) ≡ true ⌝ }
     requires { ⌜ every withinTop limits ≡ true ⌝ }
-    ensures { λ r. ⌜ r ≡ marksOf limits (bidsOf (now (words .entry))) ++ replicate (bidLimit - length (bidsOf (now (words .entry)))) 0 ⌝ }
+    ensures marks { λ r. ⌜ r .marks ≡ marksOf limits (bidsOf (now (words .entry))) ++ replicate (bidLimit - length (bidsOf (now (words .entry)))) 0 ⌝ }
+    ensures bids { λ r. ⌜ r .bids ≡ length (bidsOf (now (words .entry))) ⌝ }
 {
     let mut marks = [0; Engine::BIDS];
     let mut used = [0; Engine::BIDDERS];
@@ -92,5 +99,5 @@ pub fn marks_of(words: &[u32], limits: [u64; Engine::BIDDERS]) -> [u32; Engine::
         k += 1;
         at = bids::bid_end(words, at);
     }
-    marks
+    Marks { marks, bids: k }
 }

@@ -1,4 +1,5 @@
 // Lists of bids: refusals, limits and marks.
+use admission::Marks;
 use market::answer::Refusal;
 use market::book::Book;
 use market::book::Direction;
@@ -147,7 +148,8 @@ fn book_with(cash: u64, applied: u64, letter: u64, hold: u64, step: u32) -> Book
     book.with_bidder(4, bidder)
 }
 
-fn show(limits: [u64; Engine::BIDDERS], marks: [u32; Engine::BIDS]) {
+fn show(limits: [u64; Engine::BIDDERS], given: Marks) {
+    let marks = given.marks;
     report::number(limits[4]);
     report::text(b":");
     report::number(marks[0] as u64);

@@ -9,7 +9,7 @@ use Rattle.bids.proofs.BidLaws.{fits-list}
 use Rattle.bids.proofs.Walk.{bid-right, bid-below, right-bounds, right-pairs}
 use Rattle.bids.specs.Bids.{bidAt, bidValue}
 use Rattle.bids.specs.declared.Header.{Header}
-use Rattle.admission.proofs.MarkLaws.{MarkedTo, none-marked, one-marked, all-marked, total-within}
+use Rattle.admission.proofs.MarkLaws.{MarkedTo, none-marked, one-marked, all-marked, all-counted, total-within}
 use Rattle.admission.proofs.marks_of.Statement.{statement}
 use Rattle.admission.proofs.marks_of.Tie as tie
 
@@ -143,7 +143,7 @@ returns : tie.Need-returns Inv-loop μ-loop
 returns c = let a = c .before .before .before .args in
     let at = c .before .loop in
     let w = a .words .now in
-    all-marked w (a .t2) (at .marks) (at .used) (at .k) (at .at) (at .inv) (search needs)
+    (all-marked w (a .t2) (at .marks) (at .used) (at .k) (at .at) (at .inv) (search needs), all-counted w (a .t2) (at .marks) (at .used) (at .k) (at .at) (at .inv) (search needs))
 
 pub marks-of-spec : {M : Type 1} → statement M
 marks-of-spec =
