@@ -64,6 +64,10 @@ soundBidder round x =
     && leb (x .owed .0) owedLimit
     && leb (x .step) stepLimit
 
+-- "each 0 to 9,999 MW": a quantity of MW
+abbrev pub soundQuantity : ℕ → Bool
+soundQuantity n = leb n quantityLimit
+
 -- "the account within ±10^15"
 abbrev pub soundAccount : ℤ → Bool
 soundAccount z = leZ (negℤ (pos accountLimit)) z && leZ z (pos accountLimit)

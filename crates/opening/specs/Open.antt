@@ -1,14 +1,14 @@
 -- Document 01, "Open needs idle and every value 0. It takes kind S or L, first and last day, and per path a base quantity, a
 -- financial upper limit (FUL) and two expected capabilities A and B, each 0 to 9,999 MW. Open stores the offer and sets sold to 0."
-use mathlib.Core.Bool.{Bool, not}
+use mathlib.Core.Bool.{not}
 use mathlib.Core.List.{List, [], _∷_, _++_}
 use Prim.Native.Nat.{ℕ, zero, suc, _+_, _*_}
 use lib.Dec.{leb}
 use lib.ListN.{length, getD, take, set}
 use Rattle.market.specs.Answers.{Row, _gives_, firstOf, answered, decided}
 use Rattle.market.specs.Books.{every, megawatts, noPath, noValue, withAuction}
-use Rattle.market.specs.Limits.{quantityLimit, quantityWords}
-use Rattle.market.specs.Sound.{soundPeriod, isIdle}
+use Rattle.market.specs.Limits.{quantityWords}
+use Rattle.market.specs.Sound.{soundPeriod, soundQuantity, isIdle}
 use Rattle.market.specs.declared.answer.Outcome.{Outcome}
 use Rattle.market.specs.declared.book.Book.{Book}
 use Rattle.market.specs.declared.book.Entry.{Entry}
@@ -35,10 +35,6 @@ quantitiesAt quantities i =
 -- how many words the quantities of the book's paths take
 abbrev pub wordsNeeded : Book → ℕ
 wordsNeeded b = b .«path_count» * quantityWords
-
--- "each 0 to 9,999 MW"
-abbrev pub soundQuantity : ℕ → Bool
-soundQuantity n = leb n quantityLimit
 
 -- 1 "a lent buffer shorter than stated": the quantities of the book's paths
 abbrev pub lentRefusals : Book → List ℕ → List Row

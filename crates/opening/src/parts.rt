@@ -10,11 +10,12 @@ use offers::Quantities;
 ghost use mathlib.Core.Path.{_≡_};
 ghost use Prim.Native.Nat.{_+_, _*_, _≤_, _<_};
 ghost use lib.ListN.{length, getD, take};
+ghost use Rattle.market.specs.Sound.{soundQuantity};
 ghost use Rattle.market.specs.Books.{every, noPath, noValue};
 ghost use Rattle.market.specs.Limits.{quantityWords};
 ghost use Rattle.register.proofs.Cleared.{Lent};
 ghost use Rattle.register.specs.Refusals.{countedEntries};
-ghost use Rattle.opening.specs.Open.{quantitiesAt, wordsNeeded, soundQuantity, openedPath, openedPaths};
+ghost use Rattle.opening.specs.Open.{quantitiesAt, wordsNeeded, openedPath, openedPaths};
 
 // Whether every bidder's value is 0.
 pub fn no_values(bidders: [Bidder; Engine::BIDDERS]) -> bool

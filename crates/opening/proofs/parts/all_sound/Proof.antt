@@ -3,8 +3,8 @@ use Prim.Native.Nat.{_≤_, _-_}
 use lib.ListN.{take}
 use borrow.Author.Needs.{needs}
 use borrow.Author.Tests.{le-leb, lt-leb}
+use Rattle.market.specs.Sound.{soundQuantity}
 use Rattle.market.proofs.Tests.{Passed, pass-first, fail-first, passed-first}
-use Rattle.opening.specs.Open.{soundQuantity}
 use Rattle.opening.proofs.parts.all_sound.Statement.{statement}
 use Rattle.opening.proofs.parts.all_sound.Tie as tie
 
