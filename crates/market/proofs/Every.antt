@@ -24,6 +24,11 @@ module _ {A : Type 0} (test : A → Bool) where
   every-within (x ∷ l) zero d below h = left-true (test x) (every test l) h
   every-within (x ∷ l) (suc i) d below h = every-within l i d (omega arith) (right-true (test x) (every test l) h)
 
+  -- what passes it at each place
+  pub every-all : (l : List A) (d : A) → ((i : ℕ) → i < length l → test (getD l i d) ≡ true) → every test l ≡ true
+  every-all [] d h = refl
+  every-all (x ∷ l) d h = both-true (h zero (omega arith)) (every-all l d (λ i below. h (suc i) (omega arith)))
+
   pub every-append : (l r : List A) → every test l ≡ true → every test r ≡ true → every test (l ++ r) ≡ true
   every-append [] r h k = k
   every-append (x ∷ l) r h k =

@@ -117,12 +117,19 @@ bidListWords = 4096
 abbrev pub bidLimit : ℕ
 bidLimit = 682
 
--- "2,728 for bids", four words each; "48 for paths", three words each
+-- "2,728 for bids, each 1 admitted or 0 over, bid value, MW, charge"
+abbrev pub bidAnswerSize : ℕ
+bidAnswerSize = 4
+
 abbrev pub bidAnswerWords : ℕ
-bidAnswerWords = 2728
+bidAnswerWords = bidLimit * bidAnswerSize
+
+-- "48 for paths, each offered and sold in this round, price or 0"
+abbrev pub pathAnswerSize : ℕ
+pathAnswerSize = 3
 
 abbrev pub pathAnswerWords : ℕ
-pathAnswerWords = 48
+pathAnswerWords = pathLimit * pathAnswerSize
 
 -- "The ordering scratch lent is 2,048 words."
 abbrev pub scratchWords : ℕ

@@ -74,9 +74,13 @@ impl Engine {
 
     pub const BID_LIST_WORDS: usize = 4_096;
 
-    pub const BID_ANSWER_WORDS: usize = 2_728;
+    pub const BID_ANSWER_SIZE: usize = 4;
 
-    pub const PATH_ANSWER_WORDS: usize = 48;
+    pub const BID_ANSWER_WORDS: usize = Engine::BIDS * Engine::BID_ANSWER_SIZE;
+
+    pub const PATH_ANSWER_SIZE: usize = 3;
+
+    pub const PATH_ANSWER_WORDS: usize = Engine::PATHS * Engine::PATH_ANSWER_SIZE;
 
     pub const SCRATCH_WORDS: usize = 2_048;
 
