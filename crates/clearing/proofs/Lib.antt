@@ -1,3 +1,4 @@
 -- Laws about what a round leaves for its bids.
 pub mod ChargeLaws
+pub mod EntryLaws
 pub mod RowLaws

@@ -55,14 +55,15 @@ abbrev pub entryOf : Period → ℕ → Bid → Entry
 entryOf period won b =
     record { bidder = b .bidder; path = b .path; quantity = megawatts won; period = period; state = pending }
 
-abbrev pub wins : List ℕ → ℕ → Bool
-wins won bid = ltb 0 (getD won bid 0)
+-- a "winning bid" won 1 MW or more
+abbrev pub ifWon : Entry → List Entry
+ifWon e = cond (ltb 0 (e .quantity .0)) (e ∷ []) []
 
 -- "in bid order": those of bids from a number on
 abbrev pub entriesFrom : Period → List ℕ → ℕ → List Bid → List Entry
 entriesFrom period won bid [] = []
 entriesFrom period won bid (b ∷ bs) =
-    cond (wins won bid) (entryOf period (getD won bid 0) b ∷ []) [] ++ entriesFrom period won (bid + 1) bs
+    ifWon (entryOf period (getD won bid 0) b) ++ entriesFrom period won (bid + 1) bs
 
 abbrev pub newEntries : Period → List ℕ → List Bid → List Entry
 newEntries period won bids = entriesFrom period won 0 bids
