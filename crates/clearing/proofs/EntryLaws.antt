@@ -1,13 +1,13 @@
 -- The entries of winning bids added one by one, as `add_entries` does.
-use mathlib.Core.Path.{_≡_, refl, sym, _∙_, ap, ap₂, subst}
-use mathlib.Core.Bool.{Bool, true, false, cond}
+use mathlib.Core.Path.{_≡_, sym, _∙_, ap, ap₂, subst}
+use mathlib.Core.Bool.{Bool, true, cond}
 use mathlib.Core.List.{List, [], _∷_, _++_, append-assoc, append-nil}
 use Prim.Native.Nat.{ℕ, _+_, _*_, _≤_, _<_}
 use native.Mathlib.Omega.{arith}
 use borrow.Author.Tests.{lt-ltb, le-ltb}
 use lib.ListN.{length, getD, drop, length-append}
 use lib.Seq.{drop-append-add, drop-drop}
-use Rattle.market.specs.Limits.{entryLimit, entryWords, registerWords, pathLimit}
+use Rattle.market.specs.Limits.{entryLimit, entryWords, pathLimit}
 use Rattle.market.specs.declared.book.Entry.{Entry}
 use Rattle.market.specs.declared.book.Period.{Period}
 use Rattle.bids.proofs.Walk.{Walk, left, soundList, walk-start, left-start, walk-on, walk-done, left-splits}
@@ -107,8 +107,8 @@ module _ (words won : List ℕ) (period : Period) (before : List ℕ) (counted :
           counts = let two = length-append (s .added) (ifWon entry) in omega (arith, two, s .counts);
           stored = added-over before register (entriesOf before counted ++ s .added) (ifWon entry) count (s .stored)
               (s .counts ∙ (let n = length-append (entriesOf before counted) (s .added) in
-                let m = entries-length before counted in
-                let e : counted + length (s .added) ≡ length (entriesOf before counted ++ s .added) = omega (arith, n, m) in e))
+              let m = entries-length before counted in
+              let e : counted + length (s .added) ≡ length (entriesOf before counted ++ s .added) = omega (arith, n, m) in e))
               ∙ ap (written before) (append-assoc (entriesOf before counted) (s .added) (ifWon entry));
           rest = splits;
         }

@@ -46,7 +46,7 @@ module _ (words marks won prices before answers : List ℕ) (k at : ℕ) (s : La
   pub all-laid : length words ≤ at → answers ≡ laid before (bidRows marks won prices (bidsOf words))
   all-laid end =
       let whole : bidRows marks won prices (bidsOf words) ≡ s .rows =
-          s .rest ∙ ap (λ (l : List Bid). s .rows ++ bidRowsFrom marks won prices k l) (walk-done pathLimit words k at (s .walk) end) ∙ append-nil (s .rows) in
+      s .rest ∙ ap (λ (l : List Bid). s .rows ++ bidRowsFrom marks won prices k l) (walk-done pathLimit words k at (s .walk) end) ∙ append-nil (s .rows) in
       s .stored ∙ ap (laid before) (sym whole)
 
   module _ (inside : at < length words) where

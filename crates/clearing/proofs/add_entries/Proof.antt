@@ -7,7 +7,6 @@ use lib.ListN.{length, getD}
 use Rattle.market.specs.Limits.{pathLimit}
 use Rattle.bids.proofs.BidLaws.{fits-list}
 use Rattle.bids.proofs.Walk.{bid-right, bid-below}
-use Rattle.bids.specs.Bids.{Bid}
 use Rattle.bids.specs.declared.Header.{Header}
 use Rattle.clearing.specs.Clearing.{entryOf}
 use Rattle.clearing.proofs.EntryLaws.{AddedTo, none-added, room-here, one-added, all-counted, all-added}
@@ -103,8 +102,7 @@ loop-again c = let a = c .before .before .before .before .before .before .before
     let h = c .before .before .before .before .before .before .header-at in
     let of = entryOf (a .period) (getD (a .won .now) (at .k) 0) in
     let is = ap (λ (k : Header). of (record { bidder = k .bidder; path = k .path; stamp = 0; laminations = [] })) (h .ensures) in
-    let add = c .before .before .before .add-if-won in
-    (
+    let add = c .before .before .before .add-if-won in (
       add .kept .0 ∙ at .inv .0,
       rw (c .bid-end .ensures, add .ensures .0, add .ensures .1) (one-added w (a .won .now) (a .period) (a .register .now) (a .counted) (at .register) (at .count) (at .k) (at .at) s inside _ is),
     )

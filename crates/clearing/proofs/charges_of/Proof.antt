@@ -1,9 +1,8 @@
-use mathlib.Core.Path.{_≡_, refl, _∙_, ap}
+use mathlib.Core.Path.{_≡_, refl, ap}
 use borrow.Author.Needs.{needs}
 use native.Mathlib.Omega.{arith}
-use mathlib.Core.Path.{_≡_, refl, _∙_, ap}
-use Prim.Native.Nat.{_-_, _*_}
-use lib.ListN.{length, getD}
+use Prim.Native.Nat.{_-_}
+use lib.ListN.{length}
 use Rattle.market.proofs.Every.{every-at-any}
 use Rattle.market.specs.Limits.{pathLimit}
 use Rattle.market.specs.Sound.{soundQuantity}
@@ -79,8 +78,7 @@ charge-requires c κs = let a = c .before .before .before .before .before .befor
     let bounds = right-bounds pathLimit w (at .at) good in
     let h = c .before .before .before .header-at in
     let bidder : h .result .bidder ≡ bidAt w (at .at) .bidder = ap (λ (k : Header). k .bidder) (h .ensures) in
-    let path : h .result .path ≡ bidAt w (at .at) .path = ap (λ (k : Header). k .path) (h .ensures) in
-    (
+    let path : h .result .path ≡ bidAt w (at .at) .path = ap (λ (k : Header). k .path) (h .ensures) in (
       every-at-any soundPrice (a .t3) (h .result .path) 0 (pre .1 .1 .1 .1) refl,
       every-at-any soundQuantity (a .won .now) (at .k) 0 (pre .1 .1 .1 .0) refl,
     )

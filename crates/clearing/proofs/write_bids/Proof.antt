@@ -1,10 +1,10 @@
 use borrow.Author.Needs.{needs}
 use native.Mathlib.Omega.{arith}
 use mathlib.Core.Path.{_≡_, refl, _∙_, ap}
-use Prim.Native.Nat.{_-_, _*_}
-use lib.ListN.{length, getD}
+use Prim.Native.Nat.{_-_}
+use lib.ListN.{length}
 use Rattle.market.proofs.Every.{every-at-any}
-use Rattle.market.specs.Limits.{pathLimit, bidAnswerSize}
+use Rattle.market.specs.Limits.{pathLimit}
 use Rattle.market.specs.Sound.{soundQuantity}
 use Rattle.market.specs.declared.units.Cents.{Cents}
 use Rattle.bids.proofs.BidLaws.{fits-list}
@@ -87,8 +87,7 @@ charge-requires c κs = let a = c .before .before .before .before .before .befor
     let good = bid-right pathLimit w (at .k) (at .at) (s .walk) (search needs) in
     let bounds = right-bounds pathLimit w (at .at) good in
     let h = c .before .before .before .header-at in
-    let path : h .result .path ≡ bidAt w (at .at) .path = ap (λ (k : Header). k .path) (h .ensures) in
-    (
+    let path : h .result .path ≡ bidAt w (at .at) .path = ap (λ (k : Header). k .path) (h .ensures) in (
       every-at-any soundPrice (a .t4) (h .result .path) 0 (pre .1 .1 .1 .1 .1 .0) refl,
       every-at-any soundQuantity (a .won .now) (at .k) 0 (pre .1 .1 .1 .1 .0) refl,
     )
@@ -158,11 +157,10 @@ loop-again c = let a = c .before .before .before .before .before .before .before
     let bill = c .before .before .before .before .before .before .charge in
     let value = c .before .before .before .before .before .before .before .before .before .bid-value in
     let row = c .before .before .before .put-row in
-    let inside = c .before .before .before .before .before .before .before .before .before .before .before .loop-test .taken in
-    (
+    let inside = c .before .before .before .before .before .before .before .before .before .before .before .loop-test .taken in (
       row .kept .0 ∙ at .inv .0,
       rw (c .bid-end .ensures, row .ensures)
-      (one-laid w (a .marks .now) (a .won .now) (a .t4) (a .answers .now) (at .answers) (at .k) (at .at) s inside (value .result .0) (h .result .path) (bill .result .0) (ap (λ (m : Cents). m .0) (value .ensures .0)) path (ap (λ (m : Cents). m .0) (bill .ensures .0))),
+          (one-laid w (a .marks .now) (a .won .now) (a .t4) (a .answers .now) (at .answers) (at .k) (at .at) s inside (value .result .0) (h .result .path) (bill .result .0) (ap (λ (m : Cents). m .0) (value .ensures .0)) path (ap (λ (m : Cents). m .0) (bill .ensures .0))),
     )
 
 same-length : tie.Need-same-length Inv-loop μ-loop

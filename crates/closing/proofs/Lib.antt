@@ -1,0 +1,2 @@
+-- Laws about what a round leaves for bidders and paths.
+pub mod ClosingLaws

@@ -1,0 +1,85 @@
+use borrow.Author.Needs.{needs}
+use native.Mathlib.Omega.{arith}
+use mathlib.Core.Path.{_≡_, refl, _∙_, ap}
+use Prim.Native.Nat.{ℕ, _≤_, _-_}
+use lib.ListN.{length}
+use Rattle.clearing.specs.Clearing.{laid}
+use Rattle.closing.specs.Closing.{pathRows}
+use Rattle.closing.proofs.ClosingLaws.{row-next}
+use Rattle.closing.proofs.write_paths.Statement.{statement}
+use Rattle.closing.proofs.write_paths.Tie as tie
+
+abbrev Inv-loop : tie.InvT-loop
+Inv-loop count answers₀ offered sold prices i₀ answers i = (i ≤ count) × ((length answers ≡ length answers₀) × (answers ≡ laid answers₀ (pathRows offered sold prices i)))
+
+abbrev μ-loop : tie.MeasureT-loop
+μ-loop count answers₀ offered sold prices i₀ answers i = count - i
+
+loop-holds : tie.Need-loop-holds Inv-loop μ-loop
+loop-holds c = (search needs, (refl, refl))
+
+mul-put-row : tie.Need-mul-put-row Inv-loop μ-loop
+mul-put-row c = search needs
+
+array-read-put-row : tie.Need-array-read-put-row Inv-loop μ-loop
+array-read-put-row c = search needs
+
+mul-put-row-2 : tie.Need-mul-put-row-2 Inv-loop μ-loop
+mul-put-row-2 c = search needs
+
+array-read-put-row-2 : tie.Need-array-read-put-row-2 Inv-loop μ-loop
+array-read-put-row-2 c = search needs
+
+mul-put-row-3 : tie.Need-mul-put-row-3 Inv-loop μ-loop
+mul-put-row-3 c = search needs
+
+array-read-put-row-3 : tie.Need-array-read-put-row-3 Inv-loop μ-loop
+array-read-put-row-3 c = search needs
+
+put-row-requires : tie.Need-put-row-requires Inv-loop μ-loop
+put-row-requires c κs = let at = c .before .before .loop in
+    let pre = c .before .before .before .before .pre in
+    omega (arith, at .inv .1 .0, pre .0, pre .1)
+
+add-i : tie.Need-add-i Inv-loop μ-loop
+add-i c = search needs
+
+loop-less : tie.Need-loop-less Inv-loop μ-loop
+loop-less c = search needs
+
+loop-again : tie.Need-loop-again Inv-loop μ-loop
+loop-again c = let a = c .before .before .before .before .before .before .before .args in
+    let at = c .before .before .before .before .before .loop in
+    let put = c .before .before .put-row in (
+      search needs,
+      (put .kept .0 ∙ at .inv .1 .0, put .ensures ∙ row-next (a .t1) (a .t2) (a .t3) (a .answers .now) (at .answers) (at .i) (at .inv .1 .1)),
+    )
+
+same-length : tie.Need-same-length Inv-loop μ-loop
+same-length c = c .before .loop .inv .1 .0
+
+returns : tie.Need-returns Inv-loop μ-loop
+returns c = let a = c .before .before .before .args in
+    let at = c .before .loop in
+    let all : at .i ≡ a .count = omega arith in
+    at .inv .1 .1 ∙ ap (λ (n : ℕ). laid (a .answers .now) (pathRows (a .t1) (a .t2) (a .t3) n)) all
+
+pub write-paths-spec : {M : Type 1} → statement M
+write-paths-spec =
+    tie.close
+    (tie.spec
+    Inv-loop
+    μ-loop
+    loop-holds
+    mul-put-row
+    array-read-put-row
+    mul-put-row-2
+    array-read-put-row-2
+    mul-put-row-3
+    array-read-put-row-3
+    put-row-requires
+    add-i
+    loop-less
+    loop-again
+    same-length
+    returns)
