@@ -3,7 +3,7 @@ use mathlib.Core.Bool.{Bool, cond}
 use mathlib.Core.List.{List, [], _∷_}
 use Prim.Native.Nat.{ℕ, zero, suc}
 use Rattle.market.specs.declared.answer.Answer.{Answer}
-use Rattle.market.specs.declared.answer.Answer.the-variants.{Refused, Done, Drawn}
+use Rattle.market.specs.declared.answer.Answer.the-variants.{Refused, Done, Drawn, Bids}
 use Rattle.market.specs.declared.answer.Outcome.{Outcome}
 use Rattle.market.specs.declared.book.Book.{Book}
 
@@ -27,12 +27,14 @@ abbrev pub answerNumber : Answer → ℕ
 answerNumber (Refused number) = number
 answerNumber Done = 0
 answerNumber (Drawn draw) = 0
+answerNumber (Bids bids) = 0
 
--- the numbers that an answer carries besides: default's "carries the letter draw"
+-- the numbers that an answer carries besides: default's "carries the letter draw", a round's "carries the number of bids"
 abbrev pub answerValues : Answer → List ℕ
 answerValues (Refused number) = []
 answerValues Done = []
 answerValues (Drawn draw) = draw .0 ∷ []
+answerValues (Bids bids) = bids ∷ []
 
 -- "A refusal returns its number; nothing lent or held differs afterwards."
 abbrev pub refused : Book → ℕ → Outcome

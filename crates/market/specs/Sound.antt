@@ -4,7 +4,7 @@ use Prim.Native.Nat.{ℕ}
 use lib.Dec.{leb, eqb}
 use lib.IntN.{ℤ, pos, negℤ}
 use lib.Signed.{leZ}
-use Rattle.market.specs.Books.{every, _implies_, pathsOf, noValue, heldOf}
+use Rattle.market.specs.Books.{every, _implies_, dayNumber, pathsOf, noValue, heldOf}
 use Rattle.market.specs.Limits.{pathLimit, zoneLimit, entryLimit, roundTwoOwedLimit, moneyLimit, owedLimit, stepLimit, accountLimit, quantityLimit, dayLimit}
 use Rattle.market.specs.declared.book.Bidder.{Bidder}
 use Rattle.market.specs.declared.book.Book.{Book}
@@ -42,6 +42,15 @@ isIdle (Open kind round period) = false
 abbrev pub roundOf : Stage → ℕ
 roundOf Idle = 0
 roundOf (Open kind round period) = round
+
+-- the open auction's kind and period; with no auction open, S and day 0
+abbrev pub kindOf : Stage → Kind
+kindOf Idle = Short
+kindOf (Open kind round period) = kind
+
+abbrev pub periodOf : Stage → Period
+periodOf Idle = record { first = dayNumber 0; last = dayNumber 0 }
+periodOf (Open kind round period) = period
 
 -- a path, where the next round is the number given: "a zone 0 to 15", "with sold .. 0 at round 1", "sold at most offer at
 -- most 9,999"

@@ -33,6 +33,10 @@ impl Refusal {
 
     pub const DAYS: u32 = 21;
 
+    pub const BID_LIST: u32 = 22;
+
+    pub const REGISTER_FULL: u32 = 23;
+
     pub const NOTHING_DUE: u32 = 24;
 
     pub const QUANTITY: u32 = 25;
@@ -46,11 +50,12 @@ impl Refusal {
     pub const COLUMNS: u32 = 33;
 }
 
-// What a call answers: the refusal's number, that it is done, or the draw on a letter of credit.
+// What a call answers: the refusal's number, that it is done, the draw on a letter of credit, or a round's number of bids.
 pub enum Answer {
     Refused(u32),
     Done,
     Drawn(Cents),
+    Bids(usize),
 }
 
 impl Answer {
@@ -62,6 +67,7 @@ impl Answer {
             Answer::Refused(number) => number,
             Answer::Done => Refusal::NONE,
             Answer::Drawn(_draw) => Refusal::NONE,
+            Answer::Bids(_bids) => Refusal::NONE,
         }
     }
 }
