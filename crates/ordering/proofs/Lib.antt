@@ -3,3 +3,4 @@ pub mod MergeLaws
 pub mod PackedLaws
 pub mod BidLaws
 pub mod RunLaws
+pub mod HalfLaws
