@@ -1,0 +1,28 @@
+-- What holds after a call that a table decides: it is shown once for the call refused, so that a law about a call has only to
+-- show it for the call answered.
+use mathlib.Core.Path.{_≡_, refl, sym, _∙_, ap}
+use mathlib.Core.List.{List}
+use Prim.Native.Nat.{ℕ, zero, suc}
+use lib.IntN.{ℤ, pos, _+ℤ_, _-ℤ_, +ℤ-idr}
+use Rattle.market.specs.Answers.{decided, decidedList, answered, drawn}
+use Rattle.market.specs.declared.answer.Outcome.{Outcome}
+use Rattle.market.specs.declared.book.Book.{Book}
+use Rattle.keeping.specs.Money.{worth, Moved, ifAnswered}
+
+-- of the book
+pub book-kept : (P : Book → Type 0) (b : Book) (n : ℕ) (taken : Outcome) → P b → (n ≡ 0 → P (taken .book)) → P (decided b n taken .book)
+book-kept P b zero taken before after = after refl
+book-kept P b (suc n) taken before after = before
+
+-- of the book and of what is lent with it
+pub both-kept : (P : Book → List ℕ → Type 0) (b : Book) (words : List ℕ) (n : ℕ) (taken : Outcome) (left : List ℕ) → P b words → (n ≡ 0 → P (taken .book) left) → P (decided b n taken .book) (decidedList words n left)
+both-kept P b words zero taken left before after = after refl
+both-kept P b words (suc n) taken left before after = before
+
+-- nothing moves where a call is refused
+pub nothing-moved : (z : ℤ) → z ≡ z +ℤ pos 0 -ℤ pos 0
+nothing-moved z = sym (+ℤ-idr (z +ℤ pos 0) ∙ +ℤ-idr z)
+
+pub moved-as-answered : (b : Book) (n : ℕ) (after : Book) (into out : ℕ) → (n ≡ 0 → Moved b after into out) → Moved b (decided b n (answered after) .book) (ifAnswered (decided b n (answered after) .answer) into) (ifAnswered (decided b n (answered after) .answer) out)
+moved-as-answered b zero after into out h = h refl
+moved-as-answered b (suc n) after into out h = nothing-moved (worth b)
