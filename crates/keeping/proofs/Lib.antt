@@ -2,3 +2,7 @@
 pub mod Lifting
 pub mod Made
 pub mod Sums
+pub mod KeepFunding
+pub mod KeepRent
+pub mod Register
+pub mod KeepPay

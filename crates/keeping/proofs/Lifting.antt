@@ -7,7 +7,7 @@ use lib.IntN.{ℤ, pos, _+ℤ_, _-ℤ_, +ℤ-idr}
 use Rattle.market.specs.Answers.{decided, decidedList, answered, drawn}
 use Rattle.market.specs.declared.answer.Outcome.{Outcome}
 use Rattle.market.specs.declared.book.Book.{Book}
-use Rattle.keeping.specs.Money.{worth, Moved, ifAnswered}
+use Rattle.keeping.specs.Money.{worth, Moved, ifAnswered, drawIn}
 
 -- of the book
 pub book-kept : (P : Book → Type 0) (b : Book) (n : ℕ) (taken : Outcome) → P b → (n ≡ 0 → P (taken .book)) → P (decided b n taken .book)
@@ -23,6 +23,20 @@ both-kept P b words (suc n) taken left before after = before
 pub nothing-moved : (z : ℤ) → z ≡ z +ℤ pos 0 -ℤ pos 0
 nothing-moved z = sym (+ℤ-idr (z +ℤ pos 0) ∙ +ℤ-idr z)
 
-pub moved-as-answered : (b : Book) (n : ℕ) (after : Book) (into out : ℕ) → (n ≡ 0 → Moved b after into out) → Moved b (decided b n (answered after) .book) (ifAnswered (decided b n (answered after) .answer) into) (ifAnswered (decided b n (answered after) .answer) out)
-moved-as-answered b zero after into out h = h refl
-moved-as-answered b (suc n) after into out h = nothing-moved (worth b)
+-- money that comes in, money that goes out, and a call that moves none, where the call is answered
+module _ (b : Book) where
+  pub comes-in : (n : ℕ) (after : Book) (into : ℕ) → (n ≡ 0 → Moved b after into 0) → Moved b (decided b n (answered after) .book) (ifAnswered (decided b n (answered after) .answer) into) 0
+  comes-in zero after into h = h refl
+  comes-in (suc n) after into h = nothing-moved (worth b)
+
+  pub goes-out : (n : ℕ) (after : Book) (out : ℕ) → (n ≡ 0 → Moved b after 0 out) → Moved b (decided b n (answered after) .book) 0 (ifAnswered (decided b n (answered after) .answer) out)
+  goes-out zero after out h = h refl
+  goes-out (suc n) after out h = nothing-moved (worth b)
+
+  pub draw-comes-in : (n : ℕ) (after : Book) (draw : ℕ) → (n ≡ 0 → Moved b after draw 0) → Moved b (decided b n (drawn draw after) .book) (drawIn (decided b n (drawn draw after) .answer)) 0
+  draw-comes-in zero after draw h = h refl
+  draw-comes-in (suc n) after draw h = nothing-moved (worth b)
+
+  pub none-moves : (n : ℕ) (after : Book) → (n ≡ 0 → Moved b after 0 0) → Moved b (decided b n (answered after) .book) 0 0
+  none-moves zero after h = h refl
+  none-moves (suc n) after h = nothing-moved (worth b)

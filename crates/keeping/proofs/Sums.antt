@@ -5,9 +5,12 @@ use Prim.Native.Nat.{ℕ, zero, suc, _+_, _<_}
 use native.Mathlib.Omega.{arith}
 use lib.IntN.{ℤ, pos, negℤ, _+ℤ_, _-ℤ_, +ℤ-idr, +ℤ-assoc, +ℤ-comm, +ℤ-negℤ-cancel}
 use lib.ListN.{length, getD, set}
-use Rattle.market.specs.Books.{noBidder, heldOf}
+use Rattle.market.specs.Books.{noBidder, bidderOf, heldOf}
+use Rattle.market.specs.Limits.{bidderLimit}
 use Rattle.market.specs.declared.book.Bidder.{Bidder}
+use Rattle.market.specs.declared.book.Book.{Book}
 use Rattle.keeping.specs.Money.{heldByAll}
+use Rattle.keeping.specs.State.{State}
 
 -- another bidder at a number changes the cash held by as much
 pub held-set : (l : List Bidder) (i : ℕ) (x : Bidder) → i < length l → heldByAll (set l i x) + heldOf (getD l i noBidder) ≡ heldByAll l + heldOf x
@@ -17,6 +20,10 @@ held-set [] i x h = absurd (none h)
     none p = omega arith
 held-set (y ∷ l) zero x h = omega arith
 held-set (y ∷ l) (suc i) x h = omega (arith, held-set l i x (omega arith))
+
+-- so it does in a sound state, at the number of a bidder
+pub held-after : (b : Book) (words : List ℕ) → State b words → (i : ℕ) (x : Bidder) → i < bidderLimit → heldByAll (set (b .bidders) i x) + heldOf (bidderOf b i) ≡ heldByAll (b .bidders) + heldOf x
+held-after b words state i x h = held-set (b .bidders) i x (omega (arith, state .bidders))
 
 -- the account gains what the cash loses and what comes in
 pub gained : (z : ℤ) (held after gain into : ℕ) → after + gain ≡ held + into → pos after +ℤ (z +ℤ pos gain) ≡ pos held +ℤ z +ℤ pos into -ℤ pos 0

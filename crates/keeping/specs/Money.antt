@@ -8,6 +8,9 @@ use Rattle.market.specs.declared.answer.Answer.{Answer}
 use Rattle.market.specs.declared.answer.Answer.the-variants.{Refused, Done, Drawn}
 use Rattle.market.specs.declared.book.Bidder.{Bidder}
 use Rattle.market.specs.declared.book.Book.{Book}
+use Rattle.market.specs.declared.units.Cents.{Cents}
+use Rattle.funding.specs.declared.Funds.{Funds}
+use Rattle.funding.specs.declared.Funds.the-variants.{Cash, Letter}
 
 -- the cash of all bidders, applied cash included
 abbrev pub heldByAll : List Bidder → ℕ
@@ -30,3 +33,14 @@ abbrev pub ifAnswered : Answer → ℕ → ℕ
 ifAnswered (Refused number) amount = 0
 ifAnswered Done amount = amount
 ifAnswered (Drawn draw) amount = amount
+
+-- "The answer carries the letter draw": money that the letter's bank pays in
+abbrev pub drawIn : Answer → ℕ
+drawIn (Refused number) = 0
+drawIn Done = 0
+drawIn (Drawn draw) = draw .0
+
+-- the part of a deposit or of a withdrawal that is money: a letter is none
+abbrev pub cashOf : Funds → Cents → ℕ
+cashOf Cash amount = amount .0
+cashOf Letter amount = 0
