@@ -6,3 +6,5 @@ pub mod KeepFunding
 pub mod KeepRent
 pub mod Register
 pub mod KeepPay
+pub mod KeepDefault
+pub mod KeepRetire
