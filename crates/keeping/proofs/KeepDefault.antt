@@ -57,9 +57,6 @@ defaulting b words i h =
 defaulted-at : (round : ℕ) (x : Bidder) → AtRound round (defaulted x)
 defaulted-at round x = record { one = simp or-true; two = simp or-true }
 
-at-most-first : (a b c m : ℕ) → a ≤ m → a - min b c + 0 ≤ m
-at-most-first a b c m h = omega arith
-
 defaulted-within : (x : Bidder) → BidderBounds x → BidderBounds (defaulted x)
 defaulted-within x p =
     record {

@@ -8,3 +8,6 @@ pub mod Register
 pub mod KeepPay
 pub mod KeepDefault
 pub mod KeepRetire
+pub mod KeepPayout
+pub mod Accounts
+pub mod KeepShares
