@@ -11,3 +11,4 @@ pub mod KeepRetire
 pub mod KeepPayout
 pub mod Accounts
 pub mod KeepShares
+pub mod KeepOpen
