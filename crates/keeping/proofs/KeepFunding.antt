@@ -1,17 +1,16 @@
 -- Deposit and withdraw keep a sound state, and move the amount where it is cash.
-use mathlib.Core.Path.{_≡_, refl, sym, _∙_, ap}
-use mathlib.Core.Bool.{Bool, true}
+use mathlib.Core.Path.{_≡_}
+use mathlib.Core.Bool.{true}
 use mathlib.Core.List.{List}
-use Prim.Native.Nat.{ℕ, _+_, _-_, _≤_, _<_}
+use Prim.Native.Nat.{ℕ, _+_, _≤_}
 use native.Mathlib.Omega.{arith}
-use lib.Dec.{leb}
 use lib.ListN.{set}
 use borrow.Author.Tests.{leb-true}
 use Rattle.market.proofs.SoundLaws.{BidderBounds}
 use Rattle.market.specs.Answers.{firstOf, answered}
 use Rattle.market.specs.Books.{heldOf, bidderOf, withBidder}
 use Rattle.market.specs.Limits.{moneyLimit}
-use Rattle.market.specs.Sound.{roundOf, soundBidder}
+use Rattle.market.specs.Sound.{roundOf}
 use Rattle.market.specs.declared.book.Bidder.{Bidder}
 use Rattle.market.specs.declared.book.Book.{Book}
 use Rattle.market.specs.declared.units.Cents.{Cents}

@@ -1,11 +1,10 @@
 -- Open keeps a sound state, and moves no money.
-use mathlib.Core.Path.{_≡_, refl, sym, _∙_, ap}
-use mathlib.Core.Bool.{Bool, true, not, _&&_}
+use mathlib.Core.Path.{_≡_, refl}
+use mathlib.Core.Bool.{Bool, true, not}
 use mathlib.Core.List.{List, [], _∷_, _++_}
 use Prim.Native.Nat.{ℕ, zero, suc, _+_, _*_, _≤_, _<_}
 use native.Mathlib.Nat.{le-refl}
 use native.Mathlib.Omega.{arith}
-use lib.Dec.{leb}
 use lib.ListN.{getD, take, set}
 use lib.Seq.{getD-take}
 use borrow.Author.Tests.{not-false, leb-true, le-leb}
@@ -16,7 +15,7 @@ use Rattle.market.proofs.Tests.{left-true, right-true}
 use Rattle.market.specs.Answers.{_gives_, firstOf, answered}
 use Rattle.market.specs.Books.{every, noPath, noValue}
 use Rattle.market.specs.Limits.{zoneLimit, quantityLimit, quantityWords}
-use Rattle.market.specs.Sound.{soundRound, soundPeriod, isIdle, roundOf, soundPath, soundBidder, soundBook}
+use Rattle.market.specs.Sound.{soundRound, soundPeriod, isIdle, roundOf, soundPath, soundBidder}
 use Rattle.market.specs.declared.book.Bidder.{Bidder}
 use Rattle.market.specs.declared.book.Book.{Book}
 use Rattle.market.specs.declared.book.Entry.{Entry}

@@ -1,18 +1,18 @@
 -- Pay keeps a sound state, and the payment comes in.
-use mathlib.Core.Path.{_≡_, refl, sym, _∙_, ap}
+use mathlib.Core.Path.{_≡_, refl}
 use mathlib.Core.Bool.{true, not, or-true}
 use mathlib.Core.List.{List, [], _∷_, map}
-use Prim.Native.Nat.{ℕ, _+_, _≤_, _<_}
+use Prim.Native.Nat.{ℕ, _<_}
 use native.Mathlib.Nat.{le-refl}
 use native.Mathlib.Omega.{arith}
 use lib.Dec.{ltb, eqb}
-use lib.ListN.{length, set}
+use lib.ListN.{set}
 use borrow.Author.Tests.{not-false, ltb-true, eqb-true}
 use Rattle.market.proofs.Every.{every-map}
 use Rattle.market.proofs.SoundLaws.{BidderBounds, bidder-within}
 use Rattle.market.proofs.Tables.{none-holds, neither-holds}
 use Rattle.market.specs.Answers.{_gives_, firstOf, answered}
-use Rattle.market.specs.Books.{bidderOf, heldOf, valueOf, noValue, withBidder}
+use Rattle.market.specs.Books.{bidderOf, valueOf, noValue, withBidder}
 use Rattle.market.specs.Limits.{bidderLimit}
 use Rattle.market.specs.Sound.{roundOf, isIdle, soundAccount}
 use Rattle.market.specs.declared.book.Bidder.{Bidder}

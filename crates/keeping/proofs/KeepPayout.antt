@@ -8,7 +8,7 @@ use lib.ListN.{length, take, drop, replicate, length-replicate}
 use lib.Seq.{take-at}
 use borrow.Author.Tests.{not-false}
 use Rattle.market.proofs.Tables.{none-holds, neither-holds, list-taken}
-use Rattle.market.specs.Answers.{firstOf, answered, decidedList}
+use Rattle.market.specs.Answers.{firstOf, answered}
 use Rattle.market.specs.Books.{credit, withAccount}
 use Rattle.market.specs.Limits.{bidderLimit}
 use Rattle.market.specs.Sound.{soundAccount}

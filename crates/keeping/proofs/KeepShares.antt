@@ -1,12 +1,12 @@
 -- Disburse and recover keep a sound state; what disburse leaves in the lent list of shares goes out, and what recover leaves
 -- there comes in.
 use mathlib.Core.Path.{_≡_, refl, sym, _∙_, ap}
-use mathlib.Core.Bool.{Bool, true, not}
+use mathlib.Core.Bool.{true, not}
 use mathlib.Core.List.{List, [], _∷_, _++_}
 use Prim.Native.Nat.{ℕ}
 use native.Mathlib.Omega.{arith}
 use lib.Dec.{leb, eqb}
-use lib.IntN.{ℤ, pos, _+ℤ_, _-ℤ_}
+use lib.IntN.{pos, _+ℤ_, _-ℤ_}
 use lib.ListN.{take, drop}
 use lib.Seq.{take-at}
 use borrow.Author.Tests.{not-false}
@@ -67,13 +67,13 @@ module _ (flow : Flow) (b : Book) (d : Cents) (l : Lent) where
       ∙ ap total (take-at shares (drop bidderLimit (l .shares)) bidderLimit (sum .0))
       ∙ sum .1
 
+pub disburse-keeps : (b : Book) (words : List ℕ) (d : Cents) (l : Lent) → State b words → State (disburse b d l .book) words
+disburse-keeps b words d l state = outcome-keeps Out b d l words state
+
+pub recover-keeps : (b : Book) (words : List ℕ) (d : Cents) (l : Lent) → State b words → State (recover b d l .book) words
+recover-keeps b words d l state = outcome-keeps In b d l words state
+
 module _ (b : Book) (d : Cents) (l : Lent) where
-  pub disburse-keeps : (words : List ℕ) → State b words → State (disburse b d l .book) words
-  disburse-keeps words state = outcome-keeps Out b d l words state
-
-  pub recover-keeps : (words : List ℕ) → State b words → State (recover b d l .book) words
-  recover-keeps words state = outcome-keeps In b d l words state
-
   pub disburse-money : Moved b (disburse b d l .book) 0 (ifAnswered (disburse b d l .answer) (total (take bidderLimit (disbursed b d l))))
   unfolding outcome
   disburse-money =

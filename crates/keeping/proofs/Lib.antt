@@ -1,14 +1,17 @@
--- Laws about what the calls keep.
+-- Laws about what the calls keep: `..-keeps`, a sound state stays sound; `..-money`, the money in the book differs by what came in
+-- and what went out; `..-refused`, a refused call changes nothing.
+pub mod Accounts
+pub mod KeepDefault
+pub mod KeepFunding
+pub mod KeepOpen
+pub mod KeepPay
+pub mod KeepPayout
+pub mod KeepRent
+pub mod KeepRetire
+pub mod KeepShares
 pub mod Lifting
 pub mod Made
-pub mod Sums
-pub mod KeepFunding
-pub mod KeepRent
+pub mod RefusedSame
 pub mod Register
-pub mod KeepPay
-pub mod KeepDefault
-pub mod KeepRetire
-pub mod KeepPayout
-pub mod Accounts
-pub mod KeepShares
-pub mod KeepOpen
+pub mod Start
+pub mod Sums

@@ -4,7 +4,8 @@ use mathlib.Core.Path.{_≡_, refl, sym, _∙_, ap}
 use mathlib.Core.List.{List}
 use Prim.Native.Nat.{ℕ, zero, suc}
 use lib.IntN.{ℤ, pos, _+ℤ_, _-ℤ_, +ℤ-idr}
-use Rattle.market.specs.Answers.{decided, decidedList, answered, drawn}
+use Rattle.market.proofs.Tables.{is-refused, is-taken, list-kept}
+use Rattle.market.specs.Answers.{answerNumber, decided, decidedList, answered, drawn}
 use Rattle.market.specs.declared.answer.Outcome.{Outcome}
 use Rattle.market.specs.declared.book.Book.{Book}
 use Rattle.keeping.specs.Money.{worth, Moved, ifAnswered, drawIn}
@@ -18,6 +19,17 @@ book-kept P b (suc n) taken before after = before
 pub both-kept : (P : Book → List ℕ → Type 0) (b : Book) (words : List ℕ) (n : ℕ) (taken : Outcome) (left : List ℕ) → P b words → (n ≡ 0 → P (taken .book) left) → P (decided b n taken .book) (decidedList words n left)
 both-kept P b words zero taken left before after = after refl
 both-kept P b words (suc n) taken left before after = before
+
+-- a call whose answer has a number leaves the book, and what is lent, as they were
+module _ (b : Book) (n : ℕ) (taken : Outcome) (done : answerNumber (taken .answer) ≡ 0) (no : answerNumber (decided b n taken .answer) ≡ 0 → ⊥) where
+  number-given : n ≡ 0 → ⊥
+  number-given none = no (ap (λ (o : Outcome). answerNumber (o .answer)) (is-taken b n taken none) ∙ done)
+
+  pub book-same : decided b n taken .book ≡ b
+  book-same = ap (λ (o : Outcome). o .book) (is-refused b n taken number-given)
+
+  pub list-same : (before left : List ℕ) → decidedList before n left ≡ before
+  list-same before left = list-kept before n left number-given
 
 -- nothing moves where a call is refused
 pub nothing-moved : (z : ℤ) → z ≡ z +ℤ pos 0 -ℤ pos 0

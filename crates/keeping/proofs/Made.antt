@@ -1,18 +1,18 @@
 -- A sound book from its parts, a sound bidder from its bounds, and a state from what a call leaves.
-use mathlib.Core.Path.{_≡_, refl, sym, _∙_, ap, ap₂}
-use mathlib.Core.Bool.{Bool, true, false, _&&_, _||_, or-true}
-use mathlib.Core.List.{List, [], _∷_}
-use Prim.Native.Nat.{ℕ, _≤_, _*_}
+use mathlib.Core.Path.{_≡_, _∙_, ap₂}
+use mathlib.Core.Bool.{Bool, true, _&&_, or-true}
+use mathlib.Core.List.{List}
+use Prim.Native.Nat.{ℕ, _≤_}
 use native.Mathlib.Omega.{arith}
 use lib.Dec.{leb, eqb}
 use lib.IntN.{ℤ}
-use lib.ListN.{length, getD, set, length-set}
+use lib.ListN.{length, length-set}
 use borrow.Author.Tests.{le-leb}
 use Rattle.market.proofs.Every.{every-set, every-at-any}
-use Rattle.market.proofs.SoundLaws.{SoundParts, sound-parts, BidderBounds, bidder-bounds}
+use Rattle.market.proofs.SoundLaws.{SoundParts, sound-parts, BidderBounds}
 use Rattle.market.proofs.Tests.{left-true, right-true}
-use Rattle.market.specs.Books.{every, _implies_, noBidder, bidderOf, noValue, heldOf, withBidder, withAccount}
-use Rattle.market.specs.Limits.{entryLimit, entryWords, roundTwoOwedLimit, moneyLimit, owedLimit, stepLimit, registerWords}
+use Rattle.market.specs.Books.{_implies_, noBidder, bidderOf, noValue, heldOf, withBidder, withAccount}
+use Rattle.market.specs.Limits.{entryLimit, roundTwoOwedLimit, moneyLimit, owedLimit, stepLimit, registerWords}
 use Rattle.market.specs.Sound.{roundOf, soundBidder, soundAccount, soundBook}
 use Rattle.market.specs.declared.book.Bidder.{Bidder}
 use Rattle.market.specs.declared.book.Book.{Book}

@@ -2,14 +2,14 @@
 use mathlib.Core.Path.{_≡_, refl, sym, _∙_, ap}
 use mathlib.Core.Bool.{Bool, true, false, cond, _&&_, _||_}
 use mathlib.Core.List.{List, [], _∷_}
-use Prim.Native.Nat.{ℕ, _*_, _≤_}
+use Prim.Native.Nat.{ℕ, _≤_}
 use native.Mathlib.Omega.{arith}
 use lib.Dec.{leb, ltb, eqb}
 use lib.ListN.{length}
 use Rattle.market.proofs.SoundLaws.{sound-parts}
 use Rattle.market.proofs.Tests.{left-true, right-true}
 use Rattle.market.specs.Books.{every, withEntries}
-use Rattle.market.specs.Limits.{bidderLimit, quantityLimit, pending, issued, entryWords, entryLimit, registerWords}
+use Rattle.market.specs.Limits.{bidderLimit, quantityLimit, pending, issued, entryLimit, registerWords}
 use Rattle.market.specs.Sound.{soundPeriod}
 use Rattle.market.specs.declared.book.Book.{Book}
 use Rattle.market.specs.declared.book.Entry.{Entry}
