@@ -12,7 +12,7 @@ use Rattle.market.proofs.Every.{every-set, every-at-any}
 use Rattle.market.proofs.SoundLaws.{SoundParts, sound-parts, BidderBounds}
 use Rattle.market.proofs.Tests.{left-true, right-true}
 use Rattle.market.specs.Books.{_implies_, noBidder, bidderOf, noValue, heldOf, withBidder, withAccount}
-use Rattle.market.specs.Limits.{entryLimit, roundTwoOwedLimit, moneyLimit, owedLimit, stepLimit, registerWords}
+use Rattle.market.specs.Limits.{bidderLimit, entryLimit, roundTwoOwedLimit, moneyLimit, owedLimit, stepLimit, registerWords}
 use Rattle.market.specs.Sound.{roundOf, soundBidder, soundAccount, soundBook}
 use Rattle.market.specs.declared.book.Bidder.{Bidder}
 use Rattle.market.specs.declared.book.Book.{Book}
@@ -75,7 +75,7 @@ bidder-sound b i h =
     let round = roundOf (b .stage) in
     every-at-any (soundBidder round) (b .bidders) i noBidder (sound-parts b h .bidders) (nothing-sound round)
 
--- ---- A state
+-- ---- A state, and what a call that is lent the register knows of it
 
 pub state-lent : {b : Book} {words : List ℕ} → State b words → Lent b words
 state-lent {b} {words} s =
@@ -83,6 +83,9 @@ state-lent {b} {words} s =
     let count : b .entries ≤ entryLimit = parts .entries in
     let long : registerWords ≤ length words = s .long in
     record { long = long; sound = s .sound; entries = s .entries; count = count; room = omega arith }
+
+pub lent-state : {b : Book} {words : List ℕ} → Lent b words → length (b .bidders) ≡ bidderLimit → State b words
+lent-state l all = record { long = l .long; sound = l .sound; entries = l .entries; bidders = all }
 
 -- another sound bidder at a number
 pub bidder-kept : (b : Book) (words : List ℕ) (i : ℕ) (x : Bidder) → State b words → soundBidder (roundOf (b .stage)) x ≡ true → State (withBidder b i x) words
