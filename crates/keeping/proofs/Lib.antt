@@ -1,0 +1,17 @@
+-- Laws about what the calls keep: `..-keeps`, a sound state stays sound; `..-money`, the money in the book differs by what came in
+-- and what went out; `..-refused`, a refused call changes nothing.
+pub mod Accounts
+pub mod KeepDefault
+pub mod KeepFunding
+pub mod KeepOpen
+pub mod KeepPay
+pub mod KeepPayout
+pub mod KeepRent
+pub mod KeepRetire
+pub mod KeepShares
+pub mod Lifting
+pub mod Made
+pub mod RefusedSame
+pub mod Register
+pub mod Start
+pub mod Sums

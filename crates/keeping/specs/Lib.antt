@@ -1,0 +1,3 @@
+-- What the calls keep: a sound state, and the money.
+pub mod State
+pub mod Money

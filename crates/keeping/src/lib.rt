@@ -1,0 +1,1 @@
+// What the calls keep: laws only, in `proofs/`. There is nothing to run here.
