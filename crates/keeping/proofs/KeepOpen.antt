@@ -15,7 +15,7 @@ use Rattle.market.proofs.Tests.{left-true, right-true}
 use Rattle.market.specs.Answers.{_gives_, firstOf, answered}
 use Rattle.market.specs.Books.{every, noPath, noValue}
 use Rattle.market.specs.Limits.{zoneLimit, quantityLimit, quantityWords}
-use Rattle.market.specs.Sound.{soundRound, soundPeriod, isIdle, roundOf, soundPath, soundBidder}
+use Rattle.market.specs.Sound.{soundRound, soundPeriod, isIdle, roundOf, soundPath, soundBidder, soundQuantity}
 use Rattle.market.specs.declared.book.Bidder.{Bidder}
 use Rattle.market.specs.declared.book.Book.{Book}
 use Rattle.market.specs.declared.book.Entry.{Entry}
@@ -28,7 +28,7 @@ use Rattle.offers.specs.Offers.{offerOf}
 use Rattle.payout.proofs.EarningLaws.{zone-within}
 use Rattle.register.specs.Entries.{outstanding}
 use Rattle.register.specs.Refusals.{registerRefusals, countedEntries}
-use Rattle.opening.specs.Open.{quantitiesAt, wordsNeeded, soundQuantity, lentRefusals, openRefusals, openTable, openedPath, openedPaths, opened, «open»}
+use Rattle.opening.specs.Open.{quantitiesAt, wordsNeeded, lentRefusals, openRefusals, openTable, openedPath, openedPaths, opened, «open»}
 use Rattle.keeping.proofs.Lifting.{book-kept, none-moves, nothing-moved}
 use Rattle.keeping.proofs.Made.{both, sound-made, bidder-made}
 use Rattle.keeping.specs.Money.{worth, Moved}

@@ -5,7 +5,7 @@ use Prim.Native.Nat.{ℕ, _+_}
 use lib.IntN.{ℤ, pos, _+ℤ_, _-ℤ_}
 use Rattle.market.specs.Books.{heldOf}
 use Rattle.market.specs.declared.answer.Answer.{Answer}
-use Rattle.market.specs.declared.answer.Answer.the-variants.{Refused, Done, Drawn}
+use Rattle.market.specs.declared.answer.Answer.the-variants.{Refused, Done, Drawn, Bids}
 use Rattle.market.specs.declared.book.Bidder.{Bidder}
 use Rattle.market.specs.declared.book.Book.{Book}
 use Rattle.market.specs.declared.units.Cents.{Cents}
@@ -33,11 +33,13 @@ abbrev pub ifAnswered : Answer → ℕ → ℕ
 ifAnswered (Refused number) amount = 0
 ifAnswered Done amount = amount
 ifAnswered (Drawn draw) amount = amount
+ifAnswered (Bids bids) amount = amount
 
 -- "The answer carries the letter draw": money that the letter's bank pays in
 abbrev pub drawIn : Answer → ℕ
 drawIn (Refused number) = 0
 drawIn Done = 0
+drawIn (Bids bids) = 0
 drawIn (Drawn draw) = draw .0
 
 -- the part of a deposit or of a withdrawal that is money: a letter is none
