@@ -1,6 +1,9 @@
 -- Numbers of a round's awards, one for each bid or path.
+use mathlib.Core.Bool.{cond}
 use mathlib.Core.List.{List, [], _∷_, _++_}
-use Prim.Native.Nat.{ℕ, zero, suc}
+use Prim.Native.Nat.{ℕ, zero, suc, _+_}
+use lib.Dec.{ltb}
+use lib.ListN.{getD}
 use Rattle.market.specs.Limits.{pathLimit, bidLimit}
 use Rattle.awards.specs.Awards.{Award, wonBy, soldOn, priceOn}
 
@@ -19,3 +22,8 @@ soldTable awards = below pathLimit (λ path. soldOn path awards)
 
 abbrev pub priceTable : List Award → List ℕ
 priceTable awards = below pathLimit (λ path. priceOn path awards)
+
+-- "Each winning bid": how many of the first so many bids won any MW
+abbrev pub winnersIn : List ℕ → ℕ → ℕ
+winnersIn won zero = 0
+winnersIn won (suc n) = winnersIn won n + cond (ltb 0 (getD won n 0)) 1 0
