@@ -2,7 +2,7 @@
 use mathlib.Core.Path.{_≡_, refl, sym, _∙_, ap, ap₂, subst}
 use mathlib.Core.Bool.{Bool, true, false, cond}
 use mathlib.Core.List.{List, [], _∷_, _++_, append-assoc, append-nil}
-use Prim.Native.Nat.{ℕ, _+_, _-_, _≤_, _<_}
+use Prim.Native.Nat.{ℕ, suc, _+_, _-_, _≤_, _<_}
 use native.Mathlib.Omega.{arith}
 use lib.Dec.{leb}
 use lib.ListN.{length, getD, set, replicate, length-append, length-set}
@@ -15,6 +15,11 @@ use Rattle.market.specs.Limits.{bidderLimit, bidLimit, bidListWords, biddingLim
 use Rattle.bids.proofs.Walk.{Walk, left, soundList, walk-start, left-start, walk-on, walk-done, left-splits, bid-below}
 use Rattle.bids.specs.Bids.{Bid, bidAt, bidEnd, bidsOf, bidValue}
 use Rattle.admission.specs.Admission.{withinTop, admits, markOf, usedAfter, marksFrom, marksOf}
+
+-- a mark for each bid
+pub marks-length : (limits used : List ℕ) (bids : List Bid) → length (marksFrom limits used bids) ≡ length bids
+marks-length limits used [] = refl
+marks-length limits used (b ∷ bs) = ap suc (marks-length limits (usedAfter limits used b) bs)
 
 -- the first `k` bids have their marks, `used` has the values admitted of them, and the rest of the bids have theirs to come
 pub record MarkedTo (words limits marks used : List ℕ) (k at : ℕ) : Type 0 where

@@ -153,3 +153,22 @@ module _ (paths : ℕ) (words : List ℕ) (k at : ℕ) (w : Walk paths words k a
     pub left-splits : left w ≡ bidAt words at ∷ left walk-on
     unfolding walk-on here
     left-splits = here .bids
+
+-- the bids from a place on take six words each at least
+bids-span : (paths more : ℕ) (words : List ℕ) (at : ℕ) → soundFrom paths more words at ≡ true → at ≤ length words → length (bidsFrom more words at) * (headerWords + pairWords) + at ≤ length words
+bids-span paths zero words at ok within = omega arith
+bids-span paths (suc more) words at ok within =
+    go (leb (length words) at) ok (λ rest fits. bids-span paths more words (bidEnd words at) rest fits)
+  where
+    go : (t : Bool) → cond t true (right paths words at && soundFrom paths more words (bidEnd words at)) ≡ true → (soundFrom paths more words (bidEnd words at) ≡ true → bidEnd words at ≤ length words → length (bidsFrom more words (bidEnd words at)) * (headerWords + pairWords) + bidEnd words at ≤ length words) → length (cond t [] (bidAt words at ∷ bidsFrom more words (bidEnd words at))) * (headerWords + pairWords) + at ≤ length words
+    go true h next = omega arith
+    go false h next =
+        let good = left-true (right paths words at) (soundFrom paths more words (bidEnd words at)) h in
+        let rest = right-true (right paths words at) (soundFrom paths more words (bidEnd words at)) h in
+        let some = right-bounds paths words at good .some in
+        let span = next rest (fits-list paths words at good) in
+        omega (arith, some, span)
+
+-- so a list that a round takes has at most as many bids as can have answers
+pub bids-few : (paths : ℕ) (words : List ℕ) → soundList paths words ≡ true → length words ≤ bidListWords → length (bidsOf words) ≤ bidLimit
+bids-few paths words ok short = omega (arith, bids-span paths (length words) words 0 ok (let none : 0 ≤ length words = omega arith in none))

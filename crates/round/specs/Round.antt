@@ -14,6 +14,7 @@ use Rattle.market.specs.declared.book.Book.{Book}
 use Rattle.market.specs.declared.book.Entry.{Entry}
 use Rattle.market.specs.declared.book.Kind.{Kind}
 use Rattle.market.specs.declared.book.Kind.the-variants.{Short, Long}
+use Rattle.market.specs.declared.book.Period.{Period}
 use Rattle.market.specs.declared.book.Stage.{Stage}
 use Rattle.market.specs.declared.book.Stage.the-variants.{Idle, Open}
 use Rattle.register.specs.Refusals.{registerRefusals, countedEntries}
@@ -87,10 +88,13 @@ roundTable b words bidWords bidAnswers pathAnswers scratch =
 -- ---- The round
 
 -- "After the last round the stage is idle": S has one, L two
+abbrev pub afterRound : Kind → ℕ → Period → Stage
+afterRound Short round period = Idle
+afterRound Long round period = cond (eqb round 1) (Open Long 2 period) Idle
+
 abbrev pub stageAfter : Stage → Stage
 stageAfter Idle = Idle
-stageAfter (Open Short round period) = Idle
-stageAfter (Open Long round period) = cond (eqb round 1) (Open Long 2 period) Idle
+stageAfter (Open kind round period) = afterRound kind round period
 
 -- "for each of the 32 bidders: its charges are added to owed ..": the book after the round
 abbrev pub bookAfter : Book → List Bid → Book

@@ -1,1 +1,4 @@
-// A round of an auction.
+// The parts of a round of an auction.
+pub mod early;
+pub mod stage;
+pub mod worked;

@@ -1,0 +1,87 @@
+-- What is known where a round's refusals do not hold.
+use mathlib.Core.Path.{_≡_, refl, ap, _∙_}
+use mathlib.Core.Bool.{Bool, true, false, cond, not}
+use mathlib.Core.List.{List, [], _∷_, _++_}
+use Prim.Native.Nat.{ℕ, zero, suc, _+_, _≤_}
+use lib.Dec.{leb}
+use lib.ListN.{length}
+use borrow.Author.Tests.{not-false, leb-true}
+use Rattle.market.proofs.Every.{every-append}
+use Rattle.market.proofs.Tables.{none-holds, neither-holds, numbered}
+use Rattle.market.specs.Answers.{Row, _gives_, firstOf}
+use Rattle.market.specs.Books.{every}
+use Rattle.market.specs.Limits.{entryLimit, bidListWords, bidAnswerWords, pathAnswerWords, scratchWords}
+use Rattle.market.specs.Sound.{isIdle}
+use Rattle.market.specs.declared.book.Book.{Book}
+use Rattle.bids.specs.Bids.{Bid, bidsOf, bidAt, bidEnd}
+use Rattle.bids.specs.Faults.{bidRefusals, refusalsFrom, listRefusals}
+use Rattle.register.proofs.Cleared.{Lent, register-cleared}
+use Rattle.register.specs.Refusals.{registerRefusals}
+use Rattle.round.specs.Round.{entriesNow, lentRefusals, deskRefusals, roomRefusals, earlyRefusals, roundTable}
+
+-- each row for a bid gives a number
+rows-numbered : (more paths : ℕ) (words : List ℕ) (at : ℕ) (earlier : List Bid) → every numbered (refusalsFrom more paths words at earlier) ≡ true
+rows-numbered zero paths words at earlier = refl
+rows-numbered (suc more) paths words at earlier =
+    go (leb (length words) at) (rows-numbered more paths words (bidEnd words at) (bidAt words at ∷ earlier))
+  where
+    go : (t : Bool) → every numbered (refusalsFrom more paths words (bidEnd words at) (bidAt words at ∷ earlier)) ≡ true → every numbered (cond t [] (bidRefusals paths words at earlier ++ refusalsFrom more paths words (bidEnd words at) (bidAt words at ∷ earlier))) ≡ true
+    go true h = refl
+    go false h = h
+
+-- what is lent is long enough, and the register is lent whole and sound
+pub record AllLent (b : Book) (words answers results scratch : List ℕ) : Type 0 where
+  pub answers-long : bidAnswerWords ≤ length answers
+  pub results-long : pathAnswerWords ≤ length results
+  pub scratch-long : scratchWords ≤ length scratch
+  pub register : Lent b words
+
+-- and the auction is open, and the list has nothing to refuse
+pub record Early (b : Book) (words bidWords answers results scratch : List ℕ) : Type 0 where
+  pub lent : AllLent b words answers results scratch
+  pub is-open : isIdle (b .stage) ≡ false
+  pub short : length bidWords ≤ bidListWords
+  pub clear : firstOf (listRefusals (b .«path_count») bidWords) ≡ 0
+
+module _ (b : Book) (words bidWords answers results scratch : List ℕ) where
+  pub lent-cleared : firstOf (lentRefusals answers results scratch ++ registerRefusals b words) ≡ 0 → AllLent b words answers results scratch
+  lent-cleared h =
+      let one = leb bidAnswerWords (length answers) in
+      let two = leb pathAnswerWords (length results) in
+      let three = leb scratchWords (length scratch) in
+      let parts = neither-holds (lentRefusals answers results scratch) (registerRefusals b words) refl h in
+      let p = none-holds (not one) 1 ((not two gives 1) ∷ (not three gives 1) ∷ []) tt (parts .0) in
+      let q = none-holds (not two) 1 ((not three gives 1) ∷ []) tt (p .1) in
+      let r = none-holds (not three) 1 [] tt (q .1) in
+      record {
+        answers-long = leb-true bidAnswerWords (length answers) (not-false one (p .0));
+        results-long = leb-true pathAnswerWords (length results) (not-false two (q .0));
+        scratch-long = leb-true scratchWords (length scratch) (not-false three (r .0));
+        register = register-cleared b words (parts .1);
+      }
+
+  pub early-cleared : firstOf (earlyRefusals b words bidWords answers results scratch) ≡ 0 → Early b words bidWords answers results scratch
+  early-cleared h =
+      let parts = neither-holds (lentRefusals answers results scratch ++ registerRefusals b words) (deskRefusals b bidWords ++ listRefusals (b .«path_count») bidWords) refl h in
+      let more = neither-holds (deskRefusals b bidWords) (listRefusals (b .«path_count») bidWords) refl (parts .1) in
+      let long = leb (length bidWords) bidListWords in
+      let p = none-holds (isIdle (b .stage)) 20 ((not long gives 22) ∷ []) tt (more .0) in
+      let q = none-holds (not long) 22 [] tt (p .1) in
+      record {
+        lent = lent-cleared (parts .0);
+        is-open = p .0;
+        short = leb-true (length bidWords) bidListWords (not-false long (q .0));
+        clear = more .1;
+      }
+
+  -- each row before 23 gives a number
+  pub early-numbered : every numbered (earlyRefusals b words bidWords answers results scratch) ≡ true
+  early-numbered = rows-numbered (length bidWords) (b .«path_count») bidWords 0 []
+
+  pub round-cleared : firstOf (roundTable b words bidWords answers results scratch) ≡ 0 → (Early b words bidWords answers results scratch) × (b .entries + length (entriesNow b (bidsOf bidWords)) ≤ entryLimit)
+  round-cleared h =
+      let parts = neither-holds (earlyRefusals b words bidWords answers results scratch) (roomRefusals b (bidsOf bidWords)) early-numbered h in
+      let room = leb (b .entries + length (entriesNow b (bidsOf bidWords))) entryLimit in (
+        early-cleared (parts .0),
+        leb-true (b .entries + length (entriesNow b (bidsOf bidWords))) entryLimit (not-false room (none-holds (not room) 23 [] tt (parts .1) .0)),
+      )

@@ -1,0 +1,3 @@
+-- Laws about a round.
+pub mod Cleared
+pub mod RoundLaws

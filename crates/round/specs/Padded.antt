@@ -1,0 +1,8 @@
+-- A list with a number for each bid that a list of bids can have: those of the bids, and 0 past them.
+use mathlib.Core.List.{List, _++_}
+use Prim.Native.Nat.{ℕ, _-_}
+use lib.ListN.{replicate}
+use Rattle.market.specs.Limits.{bidLimit}
+
+abbrev pub padded : List ℕ → ℕ → List ℕ
+padded l count = l ++ replicate (bidLimit - count) 0

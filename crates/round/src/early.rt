@@ -1,0 +1,61 @@
+// The refusals of a round that need no award.
+use market::answer::Refusal;
+use market::book::Book;
+use market::engine::Engine;
+ghost use mathlib.Core.Path.{_≡_};
+ghost use mathlib.Core.List.{_++_};
+ghost use Prim.Native.Nat.{_≤_};
+ghost use Rattle.market.specs.Answers.{firstOf};
+ghost use Rattle.market.specs.Limits.{pathLimit};
+ghost use Rattle.bids.specs.Faults.{listRefusals};
+ghost use Rattle.register.specs.Refusals.{registerRefusals};
+ghost use Rattle.round.specs.Round.{lentRefusals, deskRefusals, earlyRefusals};
+
+// The refusals of the lent lists, and 1 and 2 of the register; 0 where there is none.
+fn lent_refusal(book: Book, words: &[u32], answers: &[u64], results: &[u64], scratch: &[u32]) -> u32
+    ensures { λ r. ⌜ r ≡ firstOf (lentRefusals (now (answers .entry)) (now (results .entry)) (now (scratch .entry)) ++ registerRefusals book (now (words .entry))) ⌝ }
+{
+    if answers.len() < Engine::BID_ANSWER_WORDS {
+        return Refusal::SHORT_BUFFER;
+    }
+    if results.len() < Engine::PATH_ANSWER_WORDS {
+        return Refusal::SHORT_BUFFER;
+    }
+    if scratch.len() < Engine::SCRATCH_WORDS {
+        return Refusal::SHORT_BUFFER;
+    }
+    register::refusal(book, words)
+}
+
+// The refusals of the stage and of the bid list, 20, 22, and the first faulty bid's; 0 where there is none.
+fn list_refusal(book: Book, bids: &[u32]) -> u32
+    requires { ⌜ book .«path_count» ≤ pathLimit ⌝ }
+    ensures { λ r. ⌜ r ≡ firstOf (deskRefusals book (now (bids .entry)) ++ listRefusals (book .«path_count») (now (bids .entry))) ⌝ }
+{
+    let stage = book.stage;
+    if soundness::is_idle(stage) {
+        return Refusal::STAGE;
+    }
+    if bids.len() > Engine::BID_LIST_WORDS {
+        return Refusal::BID_LIST;
+    }
+    bids::refusal(bids, book.path_count)
+}
+
+// The refusal of a round before its awards are known; 0 where there is none.
+pub fn refusal(
+    book: Book,
+    words: &[u32],
+    bids: &[u32],
+    answers: &[u64],
+    results: &[u64],
+    scratch: &[u32],
+) -> u32
+    ensures { λ r. ⌜ r ≡ firstOf (earlyRefusals book (now (words .entry)) (now (bids .entry)) (now (answers .entry)) (now (results .entry)) (now (scratch .entry))) ⌝ }
+{
+    let number = lent_refusal(book, words, answers, results, scratch);
+    if number != Refusal::NONE {
+        return number;
+    }
+    list_refusal(book, bids)
+}

@@ -1,0 +1,71 @@
+// What a round works out before its awards, and whether its winners fit the register.
+use crate::stage;
+use market::book::Book;
+use market::engine::Engine;
+ghost use mathlib.Core.Path.{_≡_};
+ghost use mathlib.Core.Bool.{true};
+ghost use mathlib.Core.List.{_++_};
+ghost use Prim.Native.Nat.{_+_, _-_, _≤_};
+ghost use lib.Dec.{leb};
+ghost use lib.ListN.{length, replicate};
+ghost use Rattle.market.specs.Books.{every};
+ghost use Rattle.market.specs.Limits.{pathLimit, bidLimit, bidListWords, entryLimit};
+ghost use Rattle.market.specs.Sound.{soundBook, soundQuantity};
+ghost use Rattle.bids.proofs.Walk.{soundList};
+ghost use Rattle.bids.specs.Bids.{bidsOf};
+ghost use Rattle.round.specs.Round.{offeredNow, marksNow, entriesNow};
+ghost use Rattle.round.specs.Padded.{padded};
+
+// The marks of the bids, the number of bids, and what the round offers of each path.
+pub struct Worked {
+    pub marks: [u32; Engine::BIDS],
+    pub bids: usize,
+    pub offered: [u32; Engine::PATHS],
+}
+
+// The marks, the number of bids, and the offers of a round.
+pub fn work_out(book: Book, bids: &[u32]) -> Worked
+    requires { ⌜ soundBook book ≡ true ⌝ }
+    requires { ⌜ length (now bids) ≤ bidListWords ⌝ }
+    requires { ⌜ soundList pathLimit (now bids) ≡ true ⌝ }
+    ensures marks { λ r. ⌜ r .marks ≡ padded (marksNow book (bidsOf (now (bids .entry)))) (length (bidsOf (now (bids .entry)))) ⌝ }
+    ensures bids { λ r. ⌜ r .bids ≡ length (bidsOf (now (bids .entry))) ⌝ }
+    ensures offered { λ r. ⌜ r .offered ≡ offeredNow book ⌝ }
+{
+    let bidders = book.bidders;
+    let limits = admission::limits_of(bidders);
+    let marked = admission::marks_of(bids, limits);
+    let stage = book.stage;
+    let paths = book.paths;
+    let kind = stage::kind_of(stage);
+    let number = stage::round_of(stage);
+    let offered = closing::offered_by(kind, number, paths, book.path_count);
+    let marks = marked.marks;
+    Worked {
+        marks,
+        bids: marked.bids,
+        offered,
+    }
+}
+
+// Whether the register has room for the winners. Where it has room for all bids it has; else they are counted, before anything
+// that is lent is touched.
+pub fn has_room(book: Book, bids: &[u32], worked: Worked) -> bool
+    requires { ⌜ book .entries ≤ entryLimit ⌝ }
+    requires { ⌜ length (now bids) ≤ bidListWords ⌝ }
+    requires { ⌜ soundList pathLimit (now bids) ≡ true ⌝ }
+    requires { ⌜ worked .marks ≡ padded (marksNow book (bidsOf (now bids))) (length (bidsOf (now bids))) ⌝ }
+    requires { ⌜ worked .bids ≡ length (bidsOf (now bids)) ⌝ }
+    requires { ⌜ worked .offered ≡ offeredNow book ⌝ }
+    requires { ⌜ every soundQuantity (offeredNow book) ≡ true ⌝ }
+    ensures { λ r. ⌜ r ≡ leb (book .entries + length (entriesNow book (bidsOf (now (bids .entry))))) entryLimit ⌝ }
+{
+    let room = Engine::ENTRIES - book.entries;
+    if worked.bids <= room {
+        return true;
+    }
+    let marks = worked.marks;
+    let offered = worked.offered;
+    let winners = awarding::winners_of(bids, &marks, worked.bids, offered);
+    winners <= room
+}
