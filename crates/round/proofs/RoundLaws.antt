@@ -1,13 +1,22 @@
 -- Laws about a round's lists: numbers past the last bid change nothing, and the winners are as many as the new entries.
 use mathlib.Core.Path.{_≡_, refl, sym, _∙_, ap, ap₂}
-use mathlib.Core.Bool.{Bool, true, false, cond}
+use mathlib.Core.Bool.{Bool, true, false, cond, _&&_}
 use mathlib.Core.List.{List, [], _∷_, _++_}
 use Prim.Native.Nat.{ℕ, zero, suc, _+_, _*_, _-_, _≤_}
 use native.Mathlib.Omega.{arith}
-use lib.Dec.{leb, ltb}
+use lib.Dec.{leb, ltb, eqb}
 use lib.ListN.{length, getD, replicate, length-append, length-replicate}
-use Rattle.market.proofs.Tests.{leb-same}
-use Rattle.market.specs.Limits.{headerWords, pairWords, bidLimit}
+use borrow.Author.Tests.{leb-true, le-leb}
+use Rattle.market.proofs.SoundLaws.{sound-parts}
+use Rattle.market.proofs.Tests.{left-true, right-true}
+use Rattle.market.specs.Books.{every, _implies_, pathsOf}
+use Rattle.market.specs.Sound.{roundOf, soundPath, soundBook}
+use Rattle.market.specs.declared.book.Bidder.{Bidder}
+use Rattle.market.specs.declared.book.Book.{Book}
+use Rattle.market.specs.declared.book.Stage.{Stage}
+use Rattle.market.specs.declared.book.Path.{Path}
+use Rattle.closing.specs.Closing.{soldWithin}
+use Rattle.market.specs.Limits.{zoneLimit, quantityLimit, headerWords, pairWords, bidLimit}
 use Rattle.market.specs.declared.book.Entry.{Entry}
 use Rattle.market.specs.declared.book.Period.{Period}
 use Rattle.bids.specs.Bids.{Bid, bidValue}
@@ -71,3 +80,41 @@ pub winners-are : (period : Period) (won : List ℕ) (bids : List Bid) → winne
 winners-are period won bids =
     let e = ap (winnersIn won) (let same : 0 + length bids ≡ length bids = omega arith in same) in
     omega (arith, e, entries-are period won 0 bids)
+
+-- in a sound book no path has sold more than a quantity of MW
+path-sold : (round : ℕ) (x : Path) → soundPath round x ≡ true → soldWithin x ≡ true
+path-sold round x h =
+    let zone = leb (x .zone) zoneLimit in
+    let first = eqb round 1 implies eqb (x .sold .0) 0 in
+    let sold = leb (x .sold .0) (x .offer .0) in
+    let offer = leb (x .offer .0) quantityLimit in
+    let most = leb-true (x .offer .0) quantityLimit (right-true (zone && first && sold) offer h) in
+    let less = leb-true (x .sold .0) (x .offer .0) (right-true (zone && first) sold (left-true (zone && first && sold) offer h)) in
+    le-leb (x .sold .0) quantityLimit (omega (arith, most, less))
+
+paths-sold : (round : ℕ) (l : List Path) → every (soundPath round) l ≡ true → every soldWithin l ≡ true
+paths-sold round [] h = refl
+paths-sold round (x ∷ l) h =
+    ap₂ _&&_ (path-sold round x (left-true (soundPath round x) (every (soundPath round) l) h))
+    (paths-sold round l (right-true (soundPath round x) (every (soundPath round) l) h))
+
+pub sold-sound : (b : Book) → soundBook b ≡ true → every soldWithin (pathsOf b) ≡ true
+sold-sound b h = paths-sold (roundOf (b .stage)) (pathsOf b) (sound-parts b h .paths)
+
+-- a book made of parts that are equal
+abbrev pub made : Book → List Path → List Bidder → ℕ → Stage → Book
+made b slots bidders entries stage =
+    record {
+      paths = slots;
+      «path_count» = b .«path_count»;
+      bidders = bidders;
+      account = b .account;
+      entries = entries;
+      stage = stage;
+    }
+
+pub made-same : (b : Book) (n : ℕ) {p q : List Path} {x y : List Bidder} {s t : Stage} → p ≡ q → x ≡ y → s ≡ t → made b p x n s ≡ made b q y n t
+made-same b n {p} {q} {x} {y} {s} {t} ep ex es =
+    ap (λ (l : List Path). made b l x n s) ep
+    ∙ ap (λ (l : List Bidder). made b q l n s) ex
+    ∙ ap (λ (l : Stage). made b q y n l) es

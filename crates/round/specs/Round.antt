@@ -96,17 +96,22 @@ abbrev pub stageAfter : Stage → Stage
 stageAfter Idle = Idle
 stageAfter (Open kind round period) = afterRound kind round period
 
--- "for each of the 32 bidders: its charges are added to owed ..": the book after the round
-abbrev pub bookAfter : Book → List Bid → Book
-bookAfter b bids =
+-- "for each of the 32 bidders: its charges are added to owed ..": the book after a round with these MW won, MW sold and clearing
+-- prices, and so many entries
+abbrev pub bookWith : Book → List ℕ → List ℕ → List ℕ → List Bid → ℕ → Book
+bookWith b won sold prices bids entries =
     record {
-      paths = soldTo (b .paths) (soldNow b bids) (b .«path_count»);
+      paths = soldTo (b .paths) sold (b .«path_count»);
       «path_count» = b .«path_count»;
-      bidders = sweptAll (b .bidders) (chargesOf (wonNow b bids) (pricesNow b bids) bids);
+      bidders = sweptAll (b .bidders) (chargesOf won prices bids);
       account = b .account;
-      entries = b .entries + length (entriesNow b bids);
+      entries = entries;
       stage = stageAfter (b .stage);
     }
+
+abbrev pub bookAfter : Book → List Bid → Book
+bookAfter b bids =
+    bookWith b (wonNow b bids) (soldNow b bids) (pricesNow b bids) bids (b .entries + length (entriesNow b bids))
 
 -- "The answer carries the number of bids."
 unfoldable pub round : Book → List ℕ → List ℕ → List ℕ → List ℕ → List ℕ → Outcome
