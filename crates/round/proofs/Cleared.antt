@@ -1,22 +1,22 @@
 -- What is known where a round's refusals do not hold.
-use mathlib.Core.Path.{_≡_, refl, ap, _∙_}
+use mathlib.Core.Path.{_≡_, refl}
 use mathlib.Core.Bool.{Bool, true, false, cond, not}
 use mathlib.Core.List.{List, [], _∷_, _++_}
 use Prim.Native.Nat.{ℕ, zero, suc, _+_, _≤_}
 use lib.Dec.{leb}
 use lib.ListN.{length}
 use borrow.Author.Tests.{not-false, leb-true}
-use Rattle.market.proofs.Every.{every-append}
 use Rattle.market.proofs.Tables.{none-holds, neither-holds, numbered}
-use Rattle.market.specs.Answers.{Row, _gives_, firstOf}
+use Rattle.market.specs.Answers.{_gives_, firstOf}
 use Rattle.market.specs.Books.{every}
 use Rattle.market.specs.Limits.{entryLimit, bidListWords, bidAnswerWords, pathAnswerWords, scratchWords}
 use Rattle.market.specs.Sound.{isIdle}
 use Rattle.market.specs.declared.book.Book.{Book}
 use Rattle.bids.specs.Bids.{Bid, bidsOf, bidAt, bidEnd}
 use Rattle.bids.specs.Faults.{bidRefusals, refusalsFrom, listRefusals}
-use Rattle.register.proofs.Cleared.{Lent, register-cleared}
+use Rattle.register.proofs.Cleared.{register-cleared}
 use Rattle.register.specs.Refusals.{registerRefusals}
+use Rattle.round.specs.Ready.{AllLent, Early}
 use Rattle.round.specs.Round.{entriesNow, lentRefusals, deskRefusals, roomRefusals, earlyRefusals, roundTable}
 
 -- each row for a bid gives a number
@@ -28,20 +28,6 @@ rows-numbered (suc more) paths words at earlier =
     go : (t : Bool) → every numbered (refusalsFrom more paths words (bidEnd words at) (bidAt words at ∷ earlier)) ≡ true → every numbered (cond t [] (bidRefusals paths words at earlier ++ refusalsFrom more paths words (bidEnd words at) (bidAt words at ∷ earlier))) ≡ true
     go true h = refl
     go false h = h
-
--- what is lent is long enough, and the register is lent whole and sound
-pub record AllLent (b : Book) (words answers results scratch : List ℕ) : Type 0 where
-  pub answers-long : bidAnswerWords ≤ length answers
-  pub results-long : pathAnswerWords ≤ length results
-  pub scratch-long : scratchWords ≤ length scratch
-  pub register : Lent b words
-
--- and the auction is open, and the list has nothing to refuse
-pub record Early (b : Book) (words bidWords answers results scratch : List ℕ) : Type 0 where
-  pub lent : AllLent b words answers results scratch
-  pub is-open : isIdle (b .stage) ≡ false
-  pub short : length bidWords ≤ bidListWords
-  pub clear : firstOf (listRefusals (b .«path_count») bidWords) ≡ 0
 
 module _ (b : Book) (words bidWords answers results scratch : List ℕ) where
   pub lent-cleared : firstOf (lentRefusals answers results scratch ++ registerRefusals b words) ≡ 0 → AllLent b words answers results scratch

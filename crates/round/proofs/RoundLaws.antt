@@ -1,29 +1,29 @@
 -- Laws about a round's lists: numbers past the last bid change nothing, and the winners are as many as the new entries.
-use mathlib.Core.Path.{_≡_, refl, sym, _∙_, ap, ap₂}
+use mathlib.Core.Path.{_≡_, refl, _∙_, ap, ap₂}
 use mathlib.Core.Bool.{Bool, true, false, cond, _&&_}
 use mathlib.Core.List.{List, [], _∷_, _++_}
 use Prim.Native.Nat.{ℕ, zero, suc, _+_, _*_, _-_, _≤_}
 use native.Mathlib.Omega.{arith}
-use lib.Dec.{leb, ltb, eqb}
+use lib.Dec.{ltb}
 use lib.ListN.{length, getD, replicate, length-append, length-replicate}
-use borrow.Author.Tests.{leb-true, le-leb}
+use borrow.Author.Tests.{le-leb}
 use Rattle.market.proofs.SoundLaws.{sound-parts}
 use Rattle.market.proofs.Tests.{left-true, right-true}
-use Rattle.market.specs.Books.{every, _implies_, pathsOf}
+use Rattle.market.specs.Books.{every, pathsOf}
 use Rattle.market.specs.Sound.{roundOf, soundPath, soundBook}
 use Rattle.market.specs.declared.book.Bidder.{Bidder}
 use Rattle.market.specs.declared.book.Book.{Book}
 use Rattle.market.specs.declared.book.Stage.{Stage}
 use Rattle.market.specs.declared.book.Path.{Path}
 use Rattle.closing.specs.Closing.{soldWithin}
-use Rattle.market.specs.Limits.{zoneLimit, quantityLimit, headerWords, pairWords, bidLimit}
-use Rattle.market.specs.declared.book.Entry.{Entry}
+use Rattle.market.specs.Limits.{quantityLimit, headerWords, pairWords, bidLimit}
 use Rattle.market.specs.declared.book.Period.{Period}
 use Rattle.bids.specs.Bids.{Bid, bidValue}
-use Rattle.awards.specs.Awards.{Lot, Award, lotsOfBid, lotsFrom, lotsOf, inOrder, walk, awardsOf}
+use Rattle.awards.specs.Awards.{Lot, lotsOfBid, lotsFrom, inOrder, walk, awardsOf}
 use Rattle.awarding.specs.Tables.{winnersIn}
 use Rattle.clearing.specs.Clearing.{chargeAt, bidRowsFrom, ifWon, entryOf, entriesFrom, newEntries}
 use Rattle.round.specs.Padded.{padded}
+use Rattle.round.proofs.RoundBounds.{path-bounds}
 
 -- a padded list reads as the list
 zeros-at : (n k : ℕ) → getD (let l : List ℕ = replicate n 0 in l) k 0 ≡ 0
@@ -84,13 +84,7 @@ winners-are period won bids =
 -- in a sound book no path has sold more than a quantity of MW
 path-sold : (round : ℕ) (x : Path) → soundPath round x ≡ true → soldWithin x ≡ true
 path-sold round x h =
-    let zone = leb (x .zone) zoneLimit in
-    let first = eqb round 1 implies eqb (x .sold .0) 0 in
-    let sold = leb (x .sold .0) (x .offer .0) in
-    let offer = leb (x .offer .0) quantityLimit in
-    let most = leb-true (x .offer .0) quantityLimit (right-true (zone && first && sold) offer h) in
-    let less = leb-true (x .sold .0) (x .offer .0) (right-true (zone && first) sold (left-true (zone && first && sold) offer h)) in
-    le-leb (x .sold .0) quantityLimit (omega (arith, most, less))
+    le-leb (x .sold .0) quantityLimit (omega (arith, path-bounds round x h .sold, path-bounds round x h .offer))
 
 paths-sold : (round : ℕ) (l : List Path) → every (soundPath round) l ≡ true → every soldWithin l ≡ true
 paths-sold round [] h = refl

@@ -1,6 +1,5 @@
 use mathlib.Core.Path.{refl, sym, _∙_}
 use mathlib.Core.List.{_++_}
-use native.Mathlib.Omega.{arith}
 use Rattle.market.proofs.SoundLaws.{sound-parts, count-within}
 use Rattle.market.proofs.Tables.{first-stands, second-decides}
 use Rattle.bids.specs.Faults.{listRefusals}

@@ -1,7 +1,7 @@
 use native.Mathlib.Omega.{arith}
-use mathlib.Core.Path.{_≡_, sym, _∙_, ap}
+use mathlib.Core.Path.{_∙_, ap}
 use mathlib.Core.List.{_++_}
-use Prim.Native.Nat.{ℕ, _+_}
+use Prim.Native.Nat.{_+_}
 use lib.ListN.{length}
 use Rattle.market.specs.declared.book.Period.{Period}
 use Rattle.bids.specs.Bids.{bidsOf}
@@ -39,8 +39,7 @@ returns c = let start = c .before .before .before .before .before .before .befor
     let bids = bidsOf (start .args .bids .now) in
     let w = start .args .words .now in
     let period = c .before .before .before .before .before .period-of .ensures in
-    let add = c .before .before .add-entries .ensures in
-    (
+    let add = c .before .before .add-entries .ensures in (
       add .0 ∙ ap (λ (p : Period). b .entries + length (newEntries p won bids)) period,
       add .1 ∙ ap (λ (p : Period). written w (entriesOf w (b .entries) ++ newEntries p won bids)) period,
     )

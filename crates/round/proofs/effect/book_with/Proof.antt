@@ -1,12 +1,9 @@
-use Rattle.round.proofs.RoundLaws.{made-same}
+use Rattle.round.proofs.RoundLaws.{made-same, sold-sound}
 use native.Mathlib.Omega.{arith}
-use mathlib.Core.Path.{_≡_, sym, _∙_, ap}
-use mathlib.Core.List.{List}
-use Prim.Native.Nat.{ℕ}
+use mathlib.Core.Path.{_∙_, ap}
 use Rattle.market.proofs.SoundLaws.{bidder-within, sound-parts, count-within}
 use Rattle.bids.specs.Bids.{bidsOf}
 use Rattle.closing.specs.Closing.{sweptAll}
-use Rattle.round.proofs.RoundLaws.{sold-sound}
 use borrow.Author.Needs.{needs}
 use Rattle.round.proofs.effect.book_with.Statement.{statement}
 use Rattle.round.proofs.effect.book_with.Tie as tie

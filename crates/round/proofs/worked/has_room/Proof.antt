@@ -1,21 +1,17 @@
-use Rattle.market.specs.Limits.{pathLimit}
+use Rattle.market.specs.Limits.{pathLimit, bidderLimit, entryLimit}
 use Rattle.market.proofs.Tests.{leb-left}
 use Rattle.bids.proofs.Walk.{bids-few}
 use Rattle.admission.proofs.MarkLaws.{marks-length}
 use Rattle.admission.specs.Admission.{biddingLimits}
-use Rattle.market.specs.Limits.{bidderLimit}
-use lib.ListN.{replicate}
-use Rattle.round.proofs.RoundLaws.{padded-length}
+use lib.ListN.{replicate, length}
+use Rattle.round.proofs.RoundLaws.{padded-length, padded-at, awards-same, winners-are}
 use native.Mathlib.Omega.{arith}
-use mathlib.Core.Path.{_≡_, sym, _∙_, ap, ap₂}
+use mathlib.Core.Path.{sym, _∙_, ap, ap₂}
 use mathlib.Core.List.{List}
 use Prim.Native.Nat.{ℕ, _+_, _-_}
 use lib.Dec.{leb}
-use lib.ListN.{length}
 use borrow.Author.Tests.{le-leb}
-use Rattle.market.proofs.Tests.{leb-same}
 use Rattle.market.specs.Books.{every}
-use Rattle.market.specs.Limits.{entryLimit}
 use Rattle.market.specs.Sound.{periodOf, soundQuantity}
 use Rattle.bids.specs.Bids.{bidsOf}
 use Rattle.awards.specs.Awards.{Award, awardsOf}
@@ -23,7 +19,6 @@ use Rattle.awarding.proofs.TableLaws.{winners-within}
 use Rattle.awarding.specs.Tables.{wonTable, winnersIn}
 use Rattle.round.specs.Padded.{padded}
 use Rattle.round.specs.Round.{offeredNow, marksNow, awardsNow, wonNow, entriesNow}
-use Rattle.round.proofs.RoundLaws.{padded-at, awards-same, winners-are}
 use borrow.Author.Needs.{needs}
 use Rattle.round.proofs.worked.has_room.Statement.{statement}
 use Rattle.round.proofs.worked.has_room.Tie as tie

@@ -1,11 +1,10 @@
-use native.Mathlib.Omega.{arith}
-use mathlib.Core.Path.{_≡_, _∙_, ap, ap₂}
+use mathlib.Core.Path.{_∙_, ap, ap₂}
 use mathlib.Core.List.{List, map, _++_}
 use Prim.Native.Nat.{ℕ, _-_}
 use lib.ListN.{length, take, replicate}
 use Rattle.market.proofs.SoundLaws.{bidder-within, sound-parts, count-within}
 use Rattle.market.specs.Books.{every}
-use Rattle.market.specs.Limits.{pathLimit, bidLimit}
+use Rattle.market.specs.Limits.{pathLimit}
 use Rattle.market.specs.declared.book.Kind.{Kind}
 use Rattle.bids.specs.Bids.{bidsOf}
 use Rattle.admission.proofs.LimitLaws.{limits-within}
