@@ -36,12 +36,12 @@ module _ (paths : ℕ) (offered : List ℕ) (bids : List Bid) (marks : List ℕ)
   own : EachBid (Own (lotsOf bids marks) marks) 0 bids
   own = own-lots 0 0 bids marks pairs
 
-  own-at : (k : ℕ) (d : Bid) → k < length bids → Own (lotsOf bids marks) marks k (getD bids k d)
+  pub own-at : (k : ℕ) (d : Bid) → k < length bids → Own (lotsOf bids marks) marks k (getD bids k d)
   own-at k d below =
       subst (λ (i : ℕ). Own (lotsOf bids marks) marks i (getD bids k d)) (let same : 0 + k ≡ k = omega arith in same)
       (bids-at (Own (lotsOf bids marks) marks) 0 bids k d below own)
 
-  known : (P : Lot → Type 0) → ((l : Lot) → InRound 0 (0 + length bids) l → P l) → EachAward (λ a. P (a .lot)) (awardsOf offered bids marks)
+  pub known : (P : Lot → Type 0) → ((l : Lot) → InRound 0 (0 + length bids) l → P l) → EachAward (λ a. P (a .lot)) (awardsOf offered bids marks)
   unfolding awardsOf
   known P f =
       each-walk P offered (inOrder (lotsOf bids marks))
@@ -50,10 +50,10 @@ module _ (paths : ℕ) (offered : List ℕ) (bids : List Bid) (marks : List ℕ)
   some-price : EachAward (λ a. 1 ≤ a .lot .price) (awardsOf offered bids marks)
   some-price = known (λ l. 1 ≤ l .price) (λ l i. i .some)
 
-  bid-below : EachAward (λ a. a .lot .bid < length bids) (awardsOf offered bids marks)
+  pub bid-below : EachAward (λ a. a .lot .bid < length bids) (awardsOf offered bids marks)
   bid-below = known (λ l. l .bid < length bids) (λ l i. omega (arith, i .to))
 
-  on-path : (k : ℕ) (b : Bid) → Own (lotsOf bids marks) marks k b → EachAward (λ a. a .lot .bid ≡ k → a .lot .path ≡ b .path) (awardsOf offered bids marks)
+  pub on-path : (k : ℕ) (b : Bid) → Own (lotsOf bids marks) marks k b → EachAward (λ a. a .lot .bid ≡ k → a .lot .path ≡ b .path) (awardsOf offered bids marks)
   unfolding awardsOf
   on-path k b mine = own-path-won (lotsOf bids marks) marks k b mine offered
 

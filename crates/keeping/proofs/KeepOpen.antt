@@ -37,7 +37,7 @@ use Rattle.keeping.specs.State.{State}
 -- ---- Lists
 
 -- one element more is set behind first ones that pass a test
-every-next : {A : Type 0} (test : A → Bool) (l : List A) (k : ℕ) (v : A) → every test (take k l) ≡ true → test v ≡ true → every test (take (suc k) (set l k v)) ≡ true
+pub every-next : {A : Type 0} (test : A → Bool) (l : List A) (k : ℕ) (v : A) → every test (take k l) ≡ true → test v ≡ true → every test (take (suc k) (set l k v)) ≡ true
 every-next test [] k v h e = refl
 every-next test (x ∷ l) zero v h e = both e refl
 every-next test (x ∷ l) (suc k) v h e =

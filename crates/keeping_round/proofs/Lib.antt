@@ -1,0 +1,2 @@
+-- Laws about what a round keeps.
+pub mod RoundBounds
