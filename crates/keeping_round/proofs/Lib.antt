@@ -1,2 +1,4 @@
 -- Laws about what a round keeps.
 pub mod RoundBounds
+pub mod RoundCleared
+pub mod ChargeLimits
