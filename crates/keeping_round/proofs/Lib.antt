@@ -2,3 +2,5 @@
 pub mod RoundBounds
 pub mod RoundCleared
 pub mod ChargeLimits
+pub mod RoundEntries
+pub mod RoundPaths
