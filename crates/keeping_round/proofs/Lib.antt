@@ -4,3 +4,4 @@ pub mod RoundCleared
 pub mod ChargeLimits
 pub mod RoundEntries
 pub mod RoundPaths
+pub mod RoundBidders
