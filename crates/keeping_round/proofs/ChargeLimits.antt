@@ -135,7 +135,7 @@ past-end (x ∷ l) zero h = absurd (let no : ⊥ = omega arith in no)
 past-end (x ∷ l) (suc i) h = past-end l i (omega arith)
 
 -- a table has a function's values, and 0 past its end
-below-most : (n : ℕ) (f : ℕ → ℕ) (i : ℕ) → getD (below n f) i 0 ≤ f i
+pub below-most : (n : ℕ) (f : ℕ → ℕ) (i : ℕ) → getD (below n f) i 0 ≤ f i
 below-most n f i = go (leb n i) refl
   where
     go : (t : Bool) → leb n i ≡ t → getD (below n f) i 0 ≤ f i

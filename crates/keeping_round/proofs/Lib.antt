@@ -5,3 +5,4 @@ pub mod ChargeLimits
 pub mod RoundEntries
 pub mod RoundPaths
 pub mod RoundBidders
+pub mod KeepRound
