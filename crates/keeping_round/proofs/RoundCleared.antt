@@ -11,9 +11,10 @@ use Rattle.market.proofs.Every.{every-append}
 use Rattle.market.proofs.Tables.{none-holds, neither-holds, numbered}
 use Rattle.market.specs.Answers.{Row, _gives_, firstOf}
 use Rattle.market.specs.Books.{every}
-use Rattle.market.specs.Limits.{entryLimit, bidListWords}
+use Rattle.market.specs.Limits.{entryLimit, bidListWords, bidAnswerWords, pathAnswerWords, scratchWords}
 use Rattle.market.specs.Sound.{isIdle}
 use Rattle.market.specs.declared.book.Book.{Book}
+use Rattle.register.proofs.Cleared.{Lent, register-cleared}
 use Rattle.register.specs.Refusals.{registerRefusals}
 use Rattle.bids.proofs.EncodingLaws.{bids-right, encodes-back}
 use Rattle.bids.specs.Bids.{Bid, bidAt, bidEnd, bidsOf}
@@ -31,22 +32,33 @@ refusals-numbered (suc more) paths words at earlier =
     go true h = refl
     go false h = h
 
-pub record RoundOpen (b : Book) (bidWords : List ℕ) : Type 0 where
+pub record RoundOpen (b : Book) (words bidWords bidAnswers pathAnswers scratch : List ℕ) : Type 0 where
+  pub bid-answers : bidAnswerWords ≤ length bidAnswers
+  pub path-answers : pathAnswerWords ≤ length pathAnswers
+  pub scratch-words : scratchWords ≤ length scratch
+  pub lent : Lent b words
   pub not-idle : isIdle (b .stage) ≡ false
   pub short : length bidWords ≤ bidListWords
   pub right : rightBids (b .«path_count») (bidsOf bidWords) ≡ true
   pub encodes : encoded (bidsOf bidWords) ≡ bidWords
   pub room : b .entries + length (entriesNow b (bidsOf bidWords)) ≤ entryLimit
 
-pub round-cleared : (b : Book) (words bidWords bidAnswers pathAnswers scratch : List ℕ) → firstOf (roundTable b words bidWords bidAnswers pathAnswers scratch) ≡ 0 → RoundOpen b bidWords
+pub round-cleared : (b : Book) (words bidWords bidAnswers pathAnswers scratch : List ℕ) → firstOf (roundTable b words bidWords bidAnswers pathAnswers scratch) ≡ 0 → RoundOpen b words bidWords bidAnswers pathAnswers scratch
 round-cleared b words bidWords bidAnswers pathAnswers scratch h =
     let lent = lentRefusals bidAnswers pathAnswers scratch ++ registerRefusals b words in
     let list = listRefusals (b .«path_count») bidWords in
     let desk = deskRefusals b bidWords in
     let listed = refusals-numbered (length bidWords) (b .«path_count») bidWords 0 [] in
     let two = neither-holds (earlyRefusals b words bidWords bidAnswers pathAnswers scratch) (roomRefusals b (bidsOf bidWords)) listed h in
-    let early = neither-holds lent (desk ++ list) refl (two .0) .1 in
-    let desks = neither-holds desk list refl early in
+    let early = neither-holds lent (desk ++ list) refl (two .0) in
+    let lents = neither-holds (lentRefusals bidAnswers pathAnswers scratch) (registerRefusals b words) refl (early .0) in
+    let desks = neither-holds desk list refl (early .1) in
+    let first = leb bidAnswerWords (length bidAnswers) in
+    let second = leb pathAnswerWords (length pathAnswers) in
+    let third = leb scratchWords (length scratch) in
+    let no1 = none-holds (not first) 1 ((not second gives 1) ∷ (not third gives 1) ∷ []) tt (lents .0) in
+    let no2 = none-holds (not second) 1 ((not third gives 1) ∷ []) tt (no1 .1) in
+    let no3 = none-holds (not third) 1 [] tt (no2 .1) in
     let idle = isIdle (b .stage) in
     let fits = leb (length bidWords) bidListWords in
     let one = none-holds idle 20 ((not fits gives 22) ∷ []) tt (desks .0) in
@@ -54,6 +66,10 @@ round-cleared b words bidWords bidAnswers pathAnswers scratch h =
     let room = leb (b .entries + length (entriesNow b (bidsOf bidWords))) entryLimit in
     let last = none-holds (not room) 23 [] tt (two .1) in
     record {
+      bid-answers = leb-true bidAnswerWords (length bidAnswers) (not-false first (no1 .0));
+      path-answers = leb-true pathAnswerWords (length pathAnswers) (not-false second (no2 .0));
+      scratch-words = leb-true scratchWords (length scratch) (not-false third (no3 .0));
+      lent = register-cleared b words (lents .1);
       not-idle = one .0;
       short = leb-true (length bidWords) bidListWords (not-false fits (next .0));
       right = bids-right (b .«path_count») bidWords (desks .1);
