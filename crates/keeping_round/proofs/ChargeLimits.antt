@@ -6,7 +6,7 @@ use Prim.Native.Nat.{ℕ, zero, suc, _+_, _*_, _-_, _≤_, _<_, min}
 use native.Mathlib.Nat.{mul-le-mul, mul-le-mul-left, mul-zero}
 use native.Mathlib.Omega.{arith}
 use lib.Dec.{leb, eqb}
-use lib.ListN.{length, getD, set, replicate, length-set, length-replicate, length-append, List·getD-append}
+use lib.ListN.{length, getD, set, replicate, length-set}
 use borrow.Author.Tests.{leb-true, leb-false}
 use Rattle.market.specs.Books.{credit}
 use Rattle.market.specs.Limits.{bidderLimit, bidLimit, pathLimit, admitted, over}
@@ -14,7 +14,7 @@ use Rattle.market.specs.declared.book.Book.{Book}
 use Rattle.bids.specs.Bids.{Bid, bidValue, laminationsValue}
 use Rattle.bids.specs.Encoding.{rightBids}
 use Rattle.bids.specs.declared.Lamination.{Lamination}
-use Rattle.admission.specs.Admission.{biddingLimits, admits, markOf, usedAfter, marksFrom, marksOf}
+use Rattle.admission.specs.Admission.{biddingLimits, admits, markOf, usedAfter, marksFrom}
 use Rattle.awards.proofs.BestAward.{charge-within, over-wins-none}
 use Rattle.awards.proofs.RoundLots.{EachBid}
 use Rattle.awards.specs.Awards.{Award, awardsOf, wonBy, priceOn, chargeOf}
@@ -22,11 +22,12 @@ use Rattle.awards.specs.Rivals.{filledValue}
 use Rattle.awarding.proofs.TableLaws.{below-at, below-length}
 use Rattle.awarding.specs.Tables.{below}
 use Rattle.clearing.specs.Clearing.{chargeAt, chargedFrom, chargesOf}
-use Rattle.round.specs.Round.{offeredNow, marksNow, awardsNow, wonNow, pricesNow}
+use Rattle.keeping_round.proofs.RoundBounds.{noBid}
+use Rattle.round.specs.Round.{offeredNow, awardsNow, wonNow, pricesNow}
 
 -- ---- Amounts by bidder
 
--- amounts of as many bidders, each at most the other's
+-- each amount is at most the other's
 abbrev pub Under : List ℕ → List ℕ → Type 0
 Under l m = (i : ℕ) → getD l i 0 ≤ getD m i 0
 
@@ -141,9 +142,6 @@ below-most n f i = go (leb n i) refl
     go : (t : Bool) → leb n i ≡ t → getD (below n f) i 0 ≤ f i
     go true e = omega (arith, past-end (below n f) i (omega (arith, below-length n f, leb-true n i e)))
     go false e = omega (arith, below-at n f i (leb-false n i e))
-
-abbrev noBid : Bid
-noBid = record { bidder = 0; path = 0; stamp = 0; laminations = [] }
 
 module _ (paths : ℕ) (offered : List ℕ) (bids : List Bid) (marks : List ℕ) (right : rightBids paths bids ≡ true) (n m : ℕ) where
   abbrev awards : List Award

@@ -2,16 +2,16 @@
 use mathlib.Core.Path.{_≡_, refl, sym, _∙_, ap}
 use mathlib.Core.Bool.{true}
 use mathlib.Core.List.{List, [], _++_}
-use Prim.Native.Nat.{ℕ, _+_, _*_, _-_, _≤_}
+use Prim.Native.Nat.{ℕ, _+_, _-_, _≤_}
 use native.Mathlib.Omega.{arith}
-use lib.ListN.{length, getD, take, replicate, length-append}
+use lib.ListN.{length, getD, length-append}
 use borrow.Author.Tests.{leb-true}
 use Rattle.market.proofs.Every.{every-append, every-at-any}
 use Rattle.market.proofs.SoundLaws.{sound-parts}
 use Rattle.market.specs.Answers.{firstOf}
 use Rattle.market.specs.Books.{every}
-use Rattle.market.specs.Limits.{pathLimit, bidderLimit, entryLimit, entryWords, registerWords, biddingLimitTop}
-use Rattle.market.specs.Sound.{roundOf, periodOf}
+use Rattle.market.specs.Limits.{pathLimit, bidderLimit, entryLimit, registerWords, biddingLimitTop}
+use Rattle.market.specs.Sound.{periodOf}
 use Rattle.market.specs.declared.answer.Answer.the-variants.{Bids}
 use Rattle.market.specs.declared.answer.Outcome.{Outcome}
 use Rattle.market.specs.declared.book.Book.{Book}
@@ -28,7 +28,7 @@ use Rattle.awards.proofs.BestAward.{sold-within-offer}
 use Rattle.awards.specs.Awards.{soldOn}
 use Rattle.clearing.specs.Clearing.{chargesOf, bidRows, laid}
 use Rattle.closing.specs.Closing.{sweptTo, pathRows}
-use Rattle.round.specs.Round.{offeredNow, marksNow, awardsNow, wonNow, soldNow, pricesNow, entriesNow, roundTable, stageAfter, bookAfter, round, roundWords, roundBidAnswers, roundPathAnswers}
+use Rattle.round.specs.Round.{offeredNow, marksNow, awardsNow, wonNow, soldNow, pricesNow, entriesNow, roundTable, bookAfter, round, roundWords, roundBidAnswers, roundPathAnswers}
 use Rattle.keeping.proofs.Lifting.{book-kept, both-kept, book-same, list-same, nothing-moved}
 use Rattle.keeping.proofs.Made.{sound-made}
 use Rattle.keeping.proofs.RefusedSame.{IsRefused}
@@ -36,7 +36,7 @@ use Rattle.keeping.proofs.Sums.{held-more}
 use Rattle.keeping.specs.Money.{heldByAll, worth, Moved}
 use Rattle.keeping.specs.State.{State}
 use Rattle.keeping_round.proofs.RoundBounds.{won-quantities}
-use Rattle.keeping_round.proofs.RoundCleared.{RoundOpen, round-cleared}
+use Rattle.keeping_round.proofs.RoundCleared.{round-cleared}
 use Rattle.keeping_round.proofs.ChargeLimits.{below-most, charges-within-limits}
 use Rattle.keeping_round.proofs.RoundEntries.{entries-sound}
 use Rattle.keeping_round.proofs.RoundPaths.{Stages, stages, paths-sold}

@@ -1,12 +1,12 @@
 -- The bidders that a round leaves are sound, and hold what they held.
 use mathlib.Core.Path.{_≡_, refl, sym, _∙_, ap}
-use mathlib.Core.Bool.{Bool, true, false, cond, _||_, or-true, false≢true}
-use mathlib.Core.List.{List, [], _∷_}
-use Prim.Native.Nat.{ℕ, zero, suc, _+_, _-_, _/_, _≤_, _<_, min}
+use mathlib.Core.Bool.{Bool, true, false, _||_, false≢true}
+use mathlib.Core.List.{List}
+use Prim.Native.Nat.{ℕ, zero, suc, _+_, _≤_}
 use native.Mathlib.Nat.{le-refl}
 use native.Mathlib.Omega.{arith}
 use lib.Dec.{leb, eqb}
-use lib.ListN.{length, getD, take, set, length-set}
+use lib.ListN.{length, getD, take, length-set}
 use lib.Seq.{getD-set-other, take-all}
 use borrow.Author.Tests.{leb-true, le-leb, eqb-true}
 use Rattle.market.proofs.Every.{every-at-any}
@@ -18,10 +18,10 @@ use Rattle.market.specs.declared.book.Bidder.{Bidder}
 use Rattle.market.specs.declared.book.Kind.{Kind}
 use Rattle.market.specs.declared.book.Kind.the-variants.{Short, Long}
 use Rattle.market.specs.declared.book.Stage.{Stage}
-use Rattle.closing.specs.Closing.{owedWith, movedOf, swept, sweptTo}
+use Rattle.closing.specs.Closing.{swept, sweptTo}
 use Rattle.round.specs.Round.{stageAfter}
 use Rattle.keeping.proofs.KeepOpen.{every-next}
-use Rattle.keeping.proofs.Made.{AtRound, bidder-made, at-round}
+use Rattle.keeping.proofs.Made.{AtRound, bidder-made, at-round, nothing-sound}
 use Rattle.keeping.proofs.Sums.{held-set}
 use Rattle.keeping.specs.Money.{heldByAll}
 use Rattle.keeping_round.proofs.RoundPaths.{Stages}
@@ -87,9 +87,6 @@ swept-length bidders charges zero = refl
 swept-length bidders charges (suc n) =
     length-set (sweptTo bidders charges n) n (swept (getD bidders n noBidder) (getD charges n 0)) ∙ swept-length bidders charges n
 
-no-bidder-sound : (round : ℕ) → soundBidder round noBidder ≡ true
-no-bidder-sound round = simp or-true
-
 bidders-swept : (next : ℕ) (bidders : List Bidder) (charges : List ℕ) (n : ℕ) → ((i : ℕ) → soundBidder next (swept (getD bidders i noBidder) (getD charges i 0)) ≡ true) → every (soundBidder next) (take n (sweptTo bidders charges n)) ≡ true
 bidders-swept next bidders charges zero each = refl
 bidders-swept next bidders charges (suc n) each =
@@ -102,7 +99,7 @@ all-swept stage bidders charges n s long sound most =
     let next = roundOf (stageAfter stage) in
     ap (every (soundBidder next)) (sym (take-all n (sweptTo bidders charges n) (omega (arith, swept-length bidders charges n, long))))
     ∙ bidders-swept next bidders charges n
-    (λ i. swept-sound stage (getD bidders i noBidder) (getD charges i 0) s (every-at-any (soundBidder round) bidders i noBidder sound (no-bidder-sound round)) (most i))
+    (λ i. swept-sound stage (getD bidders i noBidder) (getD charges i 0) s (every-at-any (soundBidder round) bidders i noBidder sound (nothing-sound round)) (most i))
 
 -- a bidder not yet reached is as it was
 not-reached : (bidders : List Bidder) (charges : List ℕ) (n i : ℕ) → n ≤ i → getD (sweptTo bidders charges n) i noBidder ≡ getD bidders i noBidder

@@ -1,8 +1,8 @@
 -- The bounds of what a round works out: quantities of MW within 9,999, and prices within 10^8.
 use mathlib.Core.Path.{_≡_, refl}
 use mathlib.Core.Bool.{Bool, true, false, cond, _&&_}
-use mathlib.Core.List.{List, [], _∷_, _++_, map}
-use Prim.Native.Nat.{ℕ, zero, suc, _+_, _-_, _≤_, _<_, min}
+use mathlib.Core.List.{List, [], _∷_, map}
+use Prim.Native.Nat.{ℕ, zero, suc, _-_, _≤_, _<_, min}
 use native.Mathlib.Omega.{arith}
 use lib.Dec.{leb, ltb, eqb}
 use lib.ListN.{length, getD, replicate}
@@ -20,7 +20,7 @@ use Rattle.offers.specs.Offers.{offeredIn}
 use Rattle.bids.specs.Bids.{Bid}
 use Rattle.bids.specs.Encoding.{rightBids}
 use Rattle.awards.proofs.BestAward.{sold-within-offer, own-at, known, bid-below, on-path}
-use Rattle.awards.proofs.Lots.{EachAward, award-map}
+use Rattle.awards.proofs.Lots.{EachAward}
 use Rattle.awards.specs.Awards.{Award, awardsOf, wonBy, soldOn, priceOn, lower}
 use Rattle.awarding.specs.Tables.{below}
 use Rattle.clearing.specs.Clearing.{soundPrice}
@@ -82,7 +82,8 @@ price-within path top (a ∷ awards) h =
 
 -- ---- The awards of bids that a round takes
 
-abbrev noBid : Bid
+-- past the end of a list of bids
+abbrev pub noBid : Bid
 noBid = record { bidder = 0; path = 0; stamp = 0; laminations = [] }
 
 module _ (paths : ℕ) (offered : List ℕ) (bids : List Bid) (marks : List ℕ) (right : rightBids paths bids ≡ true) where

@@ -1,15 +1,13 @@
 -- What is known where no refusal of a round holds.
-use mathlib.Core.Path.{_≡_, refl, ap}
+use mathlib.Core.Path.{_≡_, refl}
 use mathlib.Core.Bool.{Bool, true, false, cond, not}
 use mathlib.Core.List.{List, [], _∷_, _++_}
 use Prim.Native.Nat.{ℕ, zero, suc, _+_, _≤_}
-use native.Mathlib.Omega.{arith}
-use lib.Dec.{leb, ltb}
+use lib.Dec.{leb}
 use lib.ListN.{length}
 use borrow.Author.Tests.{leb-true, not-false}
-use Rattle.market.proofs.Every.{every-append}
 use Rattle.market.proofs.Tables.{none-holds, neither-holds, numbered}
-use Rattle.market.specs.Answers.{Row, _gives_, firstOf}
+use Rattle.market.specs.Answers.{_gives_, firstOf}
 use Rattle.market.specs.Books.{every}
 use Rattle.market.specs.Limits.{entryLimit, bidListWords, bidAnswerWords, pathAnswerWords, scratchWords}
 use Rattle.market.specs.Sound.{isIdle}

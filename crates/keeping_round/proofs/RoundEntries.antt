@@ -1,25 +1,23 @@
 -- The entries that a round adds are sound.
-use mathlib.Core.Path.{_≡_, refl, sym, _∙_, ap}
+use mathlib.Core.Path.{_≡_, refl}
 use mathlib.Core.Bool.{Bool, true, false, cond, not, _&&_}
-use mathlib.Core.List.{List, [], _∷_, _++_}
-use Prim.Native.Nat.{ℕ, _+_, _≤_, _<_}
-use native.Mathlib.Omega.{arith}
+use mathlib.Core.List.{List, [], _∷_}
+use Prim.Native.Nat.{ℕ, _+_, _≤_}
 use lib.Dec.{leb, ltb}
-use lib.ListN.{length, getD}
+use lib.ListN.{getD}
 use borrow.Author.Tests.{leb-true, le-leb, lt-ltb, ltb-true}
 use Rattle.market.proofs.Every.{every-append, every-at-any}
 use Rattle.market.proofs.Tests.{left-true, right-true}
 use Rattle.market.specs.Books.{every}
 use Rattle.market.specs.Limits.{bidderLimit, quantityLimit}
 use Rattle.market.specs.Sound.{soundPeriod, soundQuantity}
-use Rattle.market.specs.declared.book.Entry.{Entry}
 use Rattle.market.specs.declared.book.Period.{Period}
 use Rattle.register.specs.Entries.{soundEntry}
 use Rattle.bids.proofs.BidLaws.{HeaderBounds, header-bounds}
 use Rattle.bids.specs.Bids.{Bid, headerOf}
-use Rattle.bids.specs.Encoding.{rightAfter, rightBids}
+use Rattle.bids.specs.Encoding.{rightAfter}
 use Rattle.bids.specs.Faults.{soundHeader, soundLaminations, abovePrices, soundBid, hasBid, stampOf}
-use Rattle.clearing.specs.Clearing.{entryOf, ifWon, entriesFrom, newEntries}
+use Rattle.clearing.specs.Clearing.{entryOf, ifWon, entriesFrom}
 use Rattle.keeping.proofs.Made.{both}
 
 -- what is known of the first of bids that a round takes
