@@ -67,7 +67,7 @@ at-round round x h =
     record { one = left-true one two h₁; two = right-true one two h₁ }
 
 -- a bidder with nothing is sound at every round, and so every number of a sound book has a sound bidder
-nothing-sound : (round : ℕ) → soundBidder round noBidder ≡ true
+pub nothing-sound : (round : ℕ) → soundBidder round noBidder ≡ true
 nothing-sound round = simp or-true
 
 pub bidder-sound : (b : Book) (i : ℕ) → soundBook b ≡ true → soundBidder (roundOf (b .stage)) (bidderOf b i) ≡ true

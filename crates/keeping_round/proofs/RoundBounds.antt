@@ -1,0 +1,165 @@
+-- The bounds of what a round works out: quantities of MW within 9,999, and prices within 10^8.
+use mathlib.Core.Path.{_≡_, refl}
+use mathlib.Core.Bool.{Bool, true, false, cond, _&&_}
+use mathlib.Core.List.{List, [], _∷_, map}
+use Prim.Native.Nat.{ℕ, zero, suc, _-_, _≤_, _<_, min}
+use native.Mathlib.Omega.{arith}
+use lib.Dec.{leb, ltb, eqb}
+use lib.ListN.{length, getD, replicate}
+use borrow.Author.Tests.{leb-true, le-leb, eqb-true, eqb-false, leb-false}
+use Rattle.market.proofs.Every.{every-at-any, every-append, every-replicate, every-map}
+use Rattle.market.proofs.SoundLaws.{sound-parts}
+use Rattle.market.proofs.Tests.{left-true, right-true}
+use Rattle.market.specs.Books.{every, _implies_, pathsOf}
+use Rattle.market.specs.Limits.{quantityLimit, priceLimit, zoneLimit, pathLimit, bidLimit}
+use Rattle.market.specs.Sound.{soundPath, soundQuantity, soundBook, roundOf, kindOf}
+use Rattle.market.specs.declared.book.Book.{Book}
+use Rattle.market.specs.declared.book.Path.{Path}
+use Rattle.offers.proofs.OfferLaws.{offered-within}
+use Rattle.offers.specs.Offers.{offeredIn}
+use Rattle.bids.specs.Bids.{Bid}
+use Rattle.bids.specs.Encoding.{rightBids}
+use Rattle.awards.proofs.BestAward.{sold-within-offer, own-at, known, bid-below, on-path}
+use Rattle.awards.proofs.Lots.{EachAward}
+use Rattle.awards.specs.Awards.{Award, awardsOf, wonBy, soldOn, priceOn, lower}
+use Rattle.awarding.specs.Tables.{below}
+use Rattle.clearing.specs.Clearing.{soundPrice}
+use Rattle.keeping.proofs.Made.{both}
+use Rattle.round.specs.Round.{offeredNow, marksNow, awardsNow, wonNow, soldNow, pricesNow}
+
+-- ---- Tables
+
+-- what holds of each value holds of a table
+pub every-below : (test : ℕ → Bool) (n : ℕ) (f : ℕ → ℕ) → ((i : ℕ) → test (f i) ≡ true) → every test (below n f) ≡ true
+every-below test zero f h = refl
+every-below test (suc n) f h = every-append test (below n f) (f n ∷ []) (every-below test n f h) (both (h n) refl)
+
+-- ---- Sums of awards
+
+-- what a bid won was sold on its path
+pub won-within-sold : (bid path : ℕ) (awards : List Award) → EachAward (λ a. a .lot .bid ≡ bid → a .lot .path ≡ path) awards → wonBy bid awards ≤ soldOn path awards
+won-within-sold bid path [] on = omega arith
+won-within-sold bid path (a ∷ awards) on =
+    omega (arith, one (eqb (a .lot .bid) bid) refl, won-within-sold bid path awards (on .1))
+  where
+    here : (t : Bool) → eqb (a .lot .path) path ≡ t → a .lot .path ≡ path → a .taken ≤ cond t (a .taken) 0
+    here true e same = omega arith
+    here false e same = absurd (eqb-false (a .lot .path) path e same)
+
+    one : (t : Bool) → eqb (a .lot .bid) bid ≡ t → cond t (a .taken) 0 ≤ cond (eqb (a .lot .path) path) (a .taken) 0
+    one true e = here (eqb (a .lot .path) path) refl (on .0 (eqb-true (a .lot .bid) bid e))
+    one false e = omega arith
+
+-- a bid past the last one won nothing
+pub none-past : (bid count : ℕ) (awards : List Award) → count ≤ bid → EachAward (λ a. a .lot .bid < count) awards → wonBy bid awards ≤ 0
+none-past bid count [] past h = omega arith
+none-past bid count (a ∷ awards) past h =
+    omega (arith, one (eqb (a .lot .bid) bid) refl, none-past bid count awards past (h .1))
+  where
+    one : (t : Bool) → eqb (a .lot .bid) bid ≡ t → cond t (a .taken) 0 ≤ 0
+    one true e = absurd (let no : ⊥ = omega (arith, eqb-true (a .lot .bid) bid e, h .0) in no)
+    one false e = omega arith
+
+-- the lower of two prices within a bound is within it
+lower-within : (p q top : ℕ) → p ≤ top → q ≤ top → lower p q ≤ top
+lower-within p q top hp hq = go (eqb p 0) (eqb q 0)
+  where
+    go : (s t : Bool) → cond s q (cond t p (min p q)) ≤ top
+    go true t = hq
+    go false true = hp
+    go false false = omega arith
+
+-- a clearing price is no higher than the prices of the lots
+pub price-within : (path top : ℕ) (awards : List Award) → EachAward (λ a. a .lot .price ≤ top) awards → priceOn path awards ≤ top
+price-within path top [] h = omega arith
+price-within path top (a ∷ awards) h =
+    lower-within (cond (eqb (a .lot .path) path && ltb 0 (a .taken)) (a .lot .price) 0) (priceOn path awards) top
+    (one (eqb (a .lot .path) path && ltb 0 (a .taken))) (price-within path top awards (h .1))
+  where
+    one : (t : Bool) → cond t (a .lot .price) 0 ≤ top
+    one true = h .0
+    one false = omega arith
+
+-- ---- The awards of bids that a round takes
+
+-- past the end of a list of bids
+abbrev pub noBid : Bid
+noBid = record { bidder = 0; path = 0; stamp = 0; laminations = [] }
+
+module _ (paths : ℕ) (offered : List ℕ) (bids : List Bid) (marks : List ℕ) (right : rightBids paths bids ≡ true) where
+  pub sold-quantity : every soundQuantity offered ≡ true → (path : ℕ) → soldOn path (awardsOf offered bids marks) ≤ quantityLimit
+  sold-quantity h path =
+      let some : getD offered path 0 ≤ quantityLimit = leb-true (getD offered path 0) quantityLimit (every-at-any soundQuantity offered path 0 h refl) in
+      omega (arith, sold-within-offer paths offered bids marks right path, some)
+
+  pub won-quantity : every soundQuantity offered ≡ true → (bid : ℕ) → wonBy bid (awardsOf offered bids marks) ≤ quantityLimit
+  won-quantity h bid = go (leb (length bids) bid) refl
+    where
+      go : (t : Bool) → leb (length bids) bid ≡ t → wonBy bid (awardsOf offered bids marks) ≤ quantityLimit
+      go true e =
+          let none = none-past bid (length bids) (awardsOf offered bids marks) (leb-true (length bids) bid e) (bid-below paths offered bids marks right) in
+          omega (arith, none)
+      go false e =
+          let b = getD bids bid noBid in
+          let own = own-at paths offered bids marks right bid noBid (leb-false (length bids) bid e) in
+          let most = won-within-sold bid (b .path) (awardsOf offered bids marks) (on-path paths offered bids marks right bid b own) in
+          omega (arith, most, sold-quantity h (b .path))
+
+  pub price-limit : (path : ℕ) → priceOn path (awardsOf offered bids marks) ≤ priceLimit
+  price-limit path =
+      price-within path priceLimit (awardsOf offered bids marks) (known paths offered bids marks right (λ l. l .price ≤ priceLimit) (λ l i. i .top))
+
+-- ---- What a sound book offers
+
+-- the bounds of a sound path
+pub record PathBounds (round : ℕ) (p : Path) : Type 0 where
+  pub zone : p .zone ≤ zoneLimit
+  pub start : (eqb round 1 implies eqb (p .sold .0) 0) ≡ true
+  pub sold : p .sold .0 ≤ p .offer .0
+  pub offer : p .offer .0 ≤ quantityLimit
+
+pub path-bounds : (round : ℕ) (p : Path) → soundPath round p ≡ true → PathBounds round p
+path-bounds round p h =
+    let zone = leb (p .zone) zoneLimit in
+    let start = eqb round 1 implies eqb (p .sold .0) 0 in
+    let sold = leb (p .sold .0) (p .offer .0) in
+    let offer = leb (p .offer .0) quantityLimit in
+    let h₃ = left-true (zone && start && sold) offer h in
+    let h₂ = left-true (zone && start) sold h₃ in
+    record {
+      zone = leb-true (p .zone) zoneLimit (left-true zone start h₂);
+      start = right-true zone start h₂;
+      sold = leb-true (p .sold .0) (p .offer .0) (right-true (zone && start) sold h₃);
+      offer = leb-true (p .offer .0) quantityLimit (right-true (zone && start && sold) offer h);
+    }
+
+pub offered-quantities : (b : Book) → soundBook b ≡ true → every soundQuantity (offeredNow b) ≡ true
+offered-quantities b h =
+    let round = roundOf (b .stage) in
+    let kind = kindOf (b .stage) in
+    every-append soundQuantity (map (offeredIn kind round) (pathsOf b)) (replicate (pathLimit - b .«path_count») 0)
+    (every-map (offeredIn kind round) soundQuantity (soundPath round)
+    (λ p ok. le-leb (offeredIn kind round p) quantityLimit (omega (arith, offered-within kind round p, path-bounds round p ok .offer)))
+    (pathsOf b) (sound-parts b h .paths))
+    (every-replicate soundQuantity (pathLimit - b .«path_count») 0 refl)
+
+-- ---- The tables of a round
+
+module _ (b : Book) (bids : List Bid) (sound : soundBook b ≡ true) (right : rightBids (b .«path_count») bids ≡ true) where
+  pub won-quantities : every soundQuantity (wonNow b bids) ≡ true
+  unfolding awardsNow
+  won-quantities =
+      every-below soundQuantity bidLimit (λ bid. wonBy bid (awardsNow b bids))
+      (λ bid. le-leb (wonBy bid (awardsNow b bids)) quantityLimit (won-quantity (b .«path_count») (offeredNow b) bids (marksNow b bids) right (offered-quantities b sound) bid))
+
+  pub sold-quantities : every soundQuantity (soldNow b bids) ≡ true
+  unfolding awardsNow
+  sold-quantities =
+      every-below soundQuantity pathLimit (λ path. soldOn path (awardsNow b bids))
+      (λ path. le-leb (soldOn path (awardsNow b bids)) quantityLimit (sold-quantity (b .«path_count») (offeredNow b) bids (marksNow b bids) right (offered-quantities b sound) path))
+
+  pub price-bounds : every soundPrice (pricesNow b bids) ≡ true
+  unfolding awardsNow
+  price-bounds =
+      every-below soundPrice pathLimit (λ path. priceOn path (awardsNow b bids))
+      (λ path. le-leb (priceOn path (awardsNow b bids)) priceLimit (price-limit (b .«path_count») (offeredNow b) bids (marksNow b bids) right path))

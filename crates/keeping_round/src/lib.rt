@@ -1,0 +1,1 @@
+// What a round keeps: laws only, in `proofs/`. There is nothing to run here.
