@@ -22,7 +22,7 @@ use Rattle.awards.specs.Rivals.{filledValue}
 use Rattle.awarding.proofs.TableLaws.{below-at, below-length}
 use Rattle.awarding.specs.Tables.{below}
 use Rattle.clearing.specs.Clearing.{chargeAt, chargedFrom, chargesOf}
-use Rattle.keeping_round.proofs.RoundBounds.{noBid}
+use Rattle.round.proofs.RoundBounds.{noBid}
 use Rattle.round.specs.Round.{offeredNow, awardsNow, wonNow, pricesNow}
 
 -- ---- Amounts by bidder

@@ -35,7 +35,7 @@ use Rattle.keeping.proofs.RefusedSame.{IsRefused}
 use Rattle.keeping.proofs.Sums.{held-more}
 use Rattle.keeping.specs.Money.{heldByAll, worth, Moved}
 use Rattle.keeping.specs.State.{State}
-use Rattle.keeping_round.proofs.RoundBounds.{won-quantities}
+use Rattle.round.proofs.RoundBounds.{won-quantities}
 use Rattle.keeping_round.proofs.RoundCleared.{round-cleared}
 use Rattle.keeping_round.proofs.ChargeLimits.{below-most, charges-within-limits}
 use Rattle.keeping_round.proofs.RoundEntries.{entries-sound}
@@ -122,7 +122,7 @@ module _ (b : Book) (words bidWords bidAnswers pathAnswers scratch : List ℕ) w
       both-kept State b words number done (written words (countedEntries b words ++ entriesNow b bids)) state
       (λ (none : number ≡ 0).
       let clear = round-cleared b words bidWords bidAnswers pathAnswers scratch none in
-      round-kept b words bids state (stages (b .stage) (clear .not-idle) (sound-parts b (state .sound) .stage)) (clear .right) (clear .room))
+      round-kept b words bids state (stages (b .stage) (clear .early .is-open) (sound-parts b (state .sound) .stage)) (clear .right) (clear .room))
 
   -- and no money comes in or goes out
   pub round-money : State b words → Moved b (round b words bidWords bidAnswers pathAnswers scratch .book) 0 0

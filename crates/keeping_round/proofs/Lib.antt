@@ -3,8 +3,6 @@
 pub mod ChargeLimits
 pub mod KeepRound
 pub mod RoundBidders
-pub mod RoundBounds
 pub mod RoundCleared
-pub mod RoundCount
 pub mod RoundEntries
 pub mod RoundPaths

@@ -24,7 +24,7 @@ use Rattle.closing.specs.Closing.{withSold, soldTo}
 use Rattle.round.specs.Round.{stageAfter}
 use Rattle.keeping.proofs.KeepOpen.{every-next}
 use Rattle.keeping.proofs.Made.{both}
-use Rattle.keeping_round.proofs.RoundBounds.{PathBounds, path-bounds}
+use Rattle.round.proofs.RoundBounds.{PathBounds, path-bounds}
 
 -- ---- The stage
 

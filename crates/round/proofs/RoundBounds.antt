@@ -81,7 +81,7 @@ price-within path top (a ∷ awards) h =
 
 -- ---- The awards of bids that a round takes
 
-abbrev noBid : Bid
+abbrev pub noBid : Bid
 noBid = record { bidder = 0; path = 0; stamp = 0; laminations = [] }
 
 module _ (paths : ℕ) (offered : List ℕ) (bids : List Bid) (marks : List ℕ) (right : rightBids paths bids ≡ true) where
