@@ -2,12 +2,13 @@
 use mathlib.Core.Path.{_≡_, refl, sym, _∙_, ap, ap₂, subst}
 use mathlib.Core.Bool.{Bool, true, false, cond, _&&_}
 use mathlib.Core.List.{List, [], _∷_, map}
-use Prim.Native.Nat.{ℕ, zero, suc, _+_, _*_, _-_, _≤_, _<_, min}
+use Prim.Native.Nat.{ℕ, suc, _+_, _*_, _-_, _≤_, _<_, min}
 use native.Mathlib.Omega.{arith}
 use lib.Dec.{eqb, leb, ltb}
 use lib.ListN.{length, getD, set, take, drop, replicate, length-set, length-map, length-take, List·getD-map, drop-of-length-le}
 use lib.Seq.{drop-cons, getD-take, length-take-le, getD-set-same, getD-set-other}
 use borrow.Author.Tests.{le-leb, leb-true, ltb-true, eqb-true, eqb-false}
+use Rattle.market.proofs.Filled.{zeros-at}
 use Rattle.market.proofs.Every.{every-at-any, every-within, every-set}
 use Rattle.market.proofs.Tests.{left-true, right-true}
 use Rattle.market.specs.Books.{every}
@@ -68,29 +69,20 @@ pub record AwardedTo (words order : List ℕ) (lots : ℕ) (offered : List ℕ) 
   pub won-within : (k : ℕ) → getD won k 0 ≤ i * quantityLimit
   pub sold-within : (p : ℕ) → getD sold p 0 ≤ i * quantityLimit
 
--- a list of zeros has 0 everywhere
-abbrev blank : ℕ → List ℕ
-blank n = replicate n 0
-
-zeros : (n k : ℕ) → getD (blank n) k 0 ≡ 0
-zeros zero k = refl
-zeros (suc n) zero = refl
-zeros (suc n) (suc k) = zeros n k
-
 pub none-awarded : (words order : List ℕ) (lots : ℕ) (offered : List ℕ) → length offered ≡ pathLimit → every soundQuantity offered ≡ true → AwardedTo words order lots offered 0 offered (replicate bidLimit 0) (replicate pathLimit 0) (replicate pathLimit 0)
 none-awarded words order lots offered long ok =
     let A = walk offered (lotsIn words order lots) in
     record {
-      won-so = λ k. omega (arith, zeros bidLimit k);
-      sold-so = λ p. omega (arith, zeros pathLimit p);
-      price-so = λ p. sym (ap (λ (n : ℕ). lower n (priceOn p A)) (zeros pathLimit p));
+      won-so = λ k. omega (arith, zeros-at bidLimit k);
+      sold-so = λ p. omega (arith, zeros-at pathLimit p);
+      price-so = λ p. sym (ap (λ (n : ℕ). lower n (priceOn p A)) (zeros-at pathLimit p));
       won-long = refl;
       sold-long = refl;
       prices-long = refl;
       left-long = long;
       left-sound = ok;
-      won-within = λ k. omega (arith, zeros bidLimit k);
-      sold-within = λ p. omega (arith, zeros pathLimit p);
+      won-within = λ k. omega (arith, zeros-at bidLimit k);
+      sold-within = λ p. omega (arith, zeros-at pathLimit p);
     }
 
 module _ (words order : List ℕ) (lots : ℕ) (offered : List ℕ) (i : ℕ) (left won sold prices : List ℕ) (s : AwardedTo words order lots offered i left won sold prices) where

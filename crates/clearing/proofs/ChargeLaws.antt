@@ -2,13 +2,14 @@
 use mathlib.Core.Path.{_≡_, refl, sym, _∙_, ap, subst}
 use mathlib.Core.Bool.{true, false, Bool}
 use mathlib.Core.List.{List}
-use Prim.Native.Nat.{ℕ, zero, suc, _+_, _*_, _≤_, _<_}
+use Prim.Native.Nat.{ℕ, _+_, _*_, _≤_, _<_}
 use native.Mathlib.Nat.{mul-le-mul}
 use native.Mathlib.Omega.{arith}
 use lib.Dec.{eqb}
-use lib.ListN.{length, getD, replicate, length-set}
+use lib.ListN.{length, getD, length-set}
 use lib.Seq.{getD-set-same, getD-set-other}
 use borrow.Author.Tests.{le-leb, leb-true, eqb-true, eqb-false}
+use Rattle.market.proofs.Filled.{zeros, zeros-at}
 use Rattle.market.proofs.Every.{every-all}
 use Rattle.market.specs.Books.{every, credit}
 use Rattle.market.specs.Limits.{bidderLimit, bidLimit, bidListWords, pathLimit, priceLimit, quantityLimit}
@@ -39,21 +40,13 @@ pub record ChargedTo (words won prices charges : List ℕ) (k at : ℕ) : Type 0
   pub slots : length charges ≡ bidderLimit
   pub within : (i : ℕ) → getD charges i 0 ≤ k * laminationValueLimit
 
-abbrev blank : List ℕ
-blank = replicate bidderLimit 0
-
-zeros : (n i : ℕ) → getD (let l : List ℕ = replicate n 0 in l) i 0 ≤ 0
-zeros zero i = omega arith
-zeros (suc n) zero = omega arith
-zeros (suc n) (suc i) = zeros n i
-
-pub none-charged : (words won prices : List ℕ) → soundList pathLimit words ≡ true → ChargedTo words won prices blank 0 0
+pub none-charged : (words won prices : List ℕ) → soundList pathLimit words ≡ true → ChargedTo words won prices (zeros bidderLimit) 0 0
 none-charged words won prices ok =
     record {
       walk = walk-start pathLimit words ok;
-      rest = ap (chargedFrom won prices blank 0) (sym (left-start pathLimit words ok));
+      rest = ap (chargedFrom won prices (zeros bidderLimit) 0) (sym (left-start pathLimit words ok));
       slots = refl;
-      within = λ i. omega (arith, zeros bidderLimit i);
+      within = λ i. omega (arith, zeros-at bidderLimit i);
     }
 
 module _ (words won prices charges : List ℕ) (k at : ℕ) (s : ChargedTo words won prices charges k at) where

@@ -1,7 +1,7 @@
 -- A list that a loop fills from the front: the images of the first elements of another list, and a blank in each place after.
 use mathlib.Core.Path.{_≡_, refl, sym, _∙_, ap, ap₂}
 use mathlib.Core.List.{List, [], _∷_, _++_, map, append-assoc, append-nil}
-use Prim.Native.Nat.{ℕ, suc, _+_, _-_, _≤_, _<_}
+use Prim.Native.Nat.{ℕ, zero, suc, _+_, _-_, _≤_, _<_}
 use native.Mathlib.Numerals.{add-one}
 use native.Mathlib.Omega.{arith}
 use lib.ListN.{length, getD, take, set, replicate, length-map}
@@ -11,6 +11,15 @@ use lib.Seq.{length-take-le, take-all, take-suc, set-at}
 pub map-snoc : {A B : Type 0} (f : A → B) (l : List A) (a : A) → map f (l ++ (a ∷ [])) ≡ map f l ++ (f a ∷ [])
 map-snoc f [] a = refl
 map-snoc f (x ∷ l) a = ap (f x ∷_) (map-snoc f l a)
+
+-- a list of zeros has 0 everywhere
+abbrev pub zeros : ℕ → List ℕ
+zeros n = replicate n 0
+
+pub zeros-at : (n k : ℕ) → getD (zeros n) k 0 ≡ 0
+zeros-at zero k = refl
+zeros-at (suc n) zero = refl
+zeros-at (suc n) (suc k) = zeros-at n k
 
 -- storing the next element behind the first ones, where blanks fill the list up to `n`
 pub fill-snoc : {A : Type 0} (front : List A) (n k : ℕ) (blank x : A) → length front ≡ k → k < n → set (front ++ replicate (n - k) blank) k x ≡ (front ++ (x ∷ [])) ++ replicate (n - (k + 1)) blank

@@ -1,5 +1,5 @@
 -- Laws about what entries earn and how amounts add up.
-use mathlib.Core.Path.{_≡_, refl, sym, _∙_, ap}
+use mathlib.Core.Path.{_≡_, refl, _∙_, ap}
 use mathlib.Core.Bool.{Bool, true, false, _&&_, or-true}
 use mathlib.Core.List.{List, [], _∷_, _++_}
 use Prim.Native.Nat.{ℕ, _+_, _*_, _≤_, _<_}
@@ -10,18 +10,16 @@ use lib.IntN.{ℤ, pos}
 use lib.ListN.{length, getD, take, length-set}
 use lib.Seq.{getD-take}
 use borrow.Author.Tests.{leb-true}
-use Rattle.market.proofs.Every.{every-at-any, every-within}
+use Rattle.market.proofs.Every.{every-at-any}
 use Rattle.market.proofs.SoundLaws.{sound-parts}
 use Rattle.market.proofs.Tests.{left-true}
-use Rattle.market.specs.Books.{every, _implies_, noPath, credit}
+use Rattle.market.specs.Books.{_implies_, noPath, credit}
 use Rattle.market.specs.Limits.{zoneLimit, quantityLimit, zones, zonePriceLimit}
 use Rattle.market.specs.Sound.{roundOf, soundPath, soundBook}
 use Rattle.market.specs.declared.book.Book.{Book}
 use Rattle.market.specs.declared.book.Entry.{Entry}
 use Rattle.market.specs.declared.book.Path.{Path}
-use Rattle.register.proofs.EntryLaws.{EntryBounds, entry-bounds, entries-more}
-use Rattle.register.proofs.WordLaws.{entries-at, entries-length}
-use Rattle.register.specs.Entries.{soundEntry}
+use Rattle.register.proofs.EntryLaws.{entries-more}
 use Rattle.register.specs.Words.{entryAt, entriesOf}
 use Rattle.sharing.proofs.Totals.{total-set}
 use Rattle.sharing.specs.Sharing.{total}
@@ -73,12 +71,3 @@ credit-length amounts bidder cents = length-set amounts bidder (getD amounts bid
 -- what an entry earns is within the limits of a quantity and of a price
 pub product-within : {q r : ℕ} → q ≤ quantityLimit → r ≤ zonePriceLimit → q * r ≤ quantityLimit * zonePriceLimit
 product-within p h = mul-le-mul p h
-
--- each counted entry of a sound register is within its bounds
-pub counted-within : (paths : ℕ) (words : List ℕ) (n i : ℕ) → every (soundEntry paths) (entriesOf words n) ≡ true → i < n → EntryBounds paths (entryAt words i)
-counted-within paths words n i h below =
-    let es = entriesOf words n in
-    let e = entryAt words i in
-    let is : getD es i e ≡ e = entries-at words n i e below in
-    entry-bounds paths e
-    (ap (soundEntry paths) (sym is) ∙ every-within (soundEntry paths) es i e (omega (arith, entries-length words n)) h)

@@ -146,11 +146,16 @@ counted-within path period e = go (eqb (e .path) path && sharesDay (e .period) p
     go true = omega arith
     go false = omega arith
 
--- what an entry of a sound register counts for is within the limit of a quantity
-pub counted-bound : (paths : ℕ) (words : List ℕ) (n i path : ℕ) (period : Period) → every (soundEntry paths) (entriesOf words n) ≡ true → i < n → countedOf path period (entryAt words i) ≤ quantityLimit
-counted-bound paths words n i path period h below =
+-- each counted entry of a sound register is within its bounds
+pub each-bounds : (paths : ℕ) (words : List ℕ) (n i : ℕ) → every (soundEntry paths) (entriesOf words n) ≡ true → i < n → EntryBounds paths (entryAt words i)
+each-bounds paths words n i h below =
     let es = entriesOf words n in
     let e = entryAt words i in
     let is : getD es i e ≡ e = entries-at words n i e below in
-    let tested : soundEntry paths (getD es i e) ≡ true = every-within (soundEntry paths) es i e (omega (arith, entries-length words n)) h in
-    omega (arith, counted-within path period e, entry-bounds paths e (ap (soundEntry paths) (sym is) ∙ tested) .quantity)
+    entry-bounds paths e
+    (ap (soundEntry paths) (sym is) ∙ every-within (soundEntry paths) es i e (omega (arith, entries-length words n)) h)
+
+-- so what it counts for is within the limit of a quantity
+pub counted-bound : (paths : ℕ) (words : List ℕ) (n i path : ℕ) (period : Period) → every (soundEntry paths) (entriesOf words n) ≡ true → i < n → countedOf path period (entryAt words i) ≤ quantityLimit
+counted-bound paths words n i path period h below =
+    omega (arith, counted-within path period (entryAt words i), each-bounds paths words n i h below .quantity)

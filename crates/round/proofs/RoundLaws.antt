@@ -7,6 +7,7 @@ use native.Mathlib.Omega.{arith}
 use lib.Dec.{ltb}
 use lib.ListN.{length, getD, replicate, length-append, length-replicate}
 use borrow.Author.Tests.{le-leb}
+use Rattle.market.proofs.Filled.{zeros-at}
 use Rattle.market.proofs.SoundLaws.{sound-parts}
 use Rattle.market.proofs.Tests.{left-true, right-true}
 use Rattle.market.specs.Books.{every, pathsOf}
@@ -26,11 +27,6 @@ use Rattle.round.specs.Padded.{padded}
 use Rattle.round.proofs.RoundBounds.{path-bounds}
 
 -- a padded list reads as the list
-zeros-at : (n k : ℕ) → getD (let l : List ℕ = replicate n 0 in l) k 0 ≡ 0
-zeros-at zero k = refl
-zeros-at (suc n) zero = refl
-zeros-at (suc n) (suc k) = zeros-at n k
-
 more-at : (l : List ℕ) (n k : ℕ) → getD (l ++ replicate n 0) k 0 ≡ getD l k 0
 more-at [] n k = zeros-at n k
 more-at (x ∷ l) n zero = refl

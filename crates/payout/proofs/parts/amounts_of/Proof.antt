@@ -1,3 +1,4 @@
+use Rattle.register.proofs.EntryLaws.{each-bounds}
 use mathlib.Core.List.{List}
 use borrow.Author.Needs.{needs}
 use mathlib.Core.Path.{_≡_, refl, sym, _∙_, ap}
@@ -9,7 +10,7 @@ use Rattle.market.specs.Limits.{bidderLimit, quantityLimit, zonePriceLimit}
 use Rattle.market.specs.declared.book.Entry.{Entry}
 use Rattle.register.specs.Words.{entriesOf}
 use Rattle.sharing.specs.Sharing.{total}
-use Rattle.payout.proofs.EarningLaws.{credited-more, credit-total, credit-length, counted-within}
+use Rattle.payout.proofs.EarningLaws.{credited-more, credit-total, credit-length}
 use Rattle.payout.specs.Payout.{earned, credited, amountsOf}
 use Rattle.payout.proofs.parts.amounts_of.Statement.{statement}
 use Rattle.payout.proofs.parts.amounts_of.Tie as tie
@@ -34,7 +35,7 @@ earned-by-requires : tie.Need-earned-by-requires Inv-loop μ-loop
 earned-by-requires c κs =
     let s = c .before .before .before .before in
     let a = s .args in
-    let within = counted-within (a .book .«path_count») (a .words .now) (a .book .entries) (c .before .before .loop .i) (s .pre .0 .entries) (c .before .loop-test .taken) in
+    let within = each-bounds (a .book .«path_count») (a .words .now) (a .book .entries) (c .before .before .loop .i) (s .pre .0 .entries) (c .before .loop-test .taken) in
     (s .pre .0 .sound, (rw (c .read .ensures) within, s .pre .1))
 
 with-earned-requires : tie.Need-with-earned-requires Inv-loop μ-loop
@@ -42,7 +43,7 @@ with-earned-requires c κs =
     let s = c .before .before .before .before .before in
     let a = s .args in
     let at = c .before .before .before .loop in
-    let within = counted-within (a .book .«path_count») (a .words .now) (a .book .entries) (at .i) (s .pre .0 .entries) (c .before .before .loop-test .taken) in (
+    let within = each-bounds (a .book .«path_count») (a .words .now) (a .book .entries) (at .i) (s .pre .0 .entries) (c .before .before .loop-test .taken) in (
       rw (c .before .read .ensures) (within .bidder),
       (
         at .inv .1 .1 .1 .0,
@@ -67,7 +68,7 @@ loop-again c =
     let before = credited earns zeros (entriesOf w (at .i)) in
     let e = c .before .before .read .result in
     let cents = c .before .earned-by .result in
-    let within = counted-within (a .book .«path_count») w (a .book .entries) (at .i) (s .pre .0 .entries) (c .before .before .before .loop-test .taken) in
+    let within = each-bounds (a .book .«path_count») w (a .book .entries) (at .i) (s .pre .0 .entries) (c .before .before .before .loop-test .taken) in
     let number : e .bidder < bidderLimit = rw (c .before .before .read .ensures) (within .bidder) in
     let made = c .with-earned .ensures .0 in
     let amounts =
