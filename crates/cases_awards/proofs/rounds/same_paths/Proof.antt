@@ -1,0 +1,73 @@
+use borrow.Author.Needs.{needs}
+use Prim.Native.Nat.{_≤_, _-_}
+use Rattle.cases_awards.proofs.rounds.same_paths.Statement.{statement}
+use Rattle.cases_awards.proofs.rounds.same_paths.Tie as tie
+
+abbrev Inv-loop : tie.InvT-loop
+Inv-loop sold other-sold prices other-prices p₀ p = p ≤ 16
+
+abbrev μ-loop : tie.MeasureT-loop
+μ-loop sold other-sold prices other-prices p₀ p = 16 - p
+
+loop-holds : tie.Need-loop-holds Inv-loop μ-loop
+loop-holds c = search needs
+
+mul-if1 : tie.Need-mul-if1 Inv-loop μ-loop
+mul-if1 c = search needs
+
+array-read-if1 : tie.Need-array-read-if1 Inv-loop μ-loop
+array-read-if1 c = search needs
+
+mul-if1-2 : tie.Need-mul-if1-2 Inv-loop μ-loop
+mul-if1-2 c = search needs
+
+array-read-if1-2 : tie.Need-array-read-if1-2 Inv-loop μ-loop
+array-read-if1-2 c = search needs
+
+mul-if1-3 : tie.Need-mul-if1-3 Inv-loop μ-loop
+mul-if1-3 c = search needs
+
+array-read-if1-3 : tie.Need-array-read-if1-3 Inv-loop μ-loop
+array-read-if1-3 c = search needs
+
+mul-if1-4 : tie.Need-mul-if1-4 Inv-loop μ-loop
+mul-if1-4 c = search needs
+
+array-read-if1-4 : tie.Need-array-read-if1-4 Inv-loop μ-loop
+array-read-if1-4 c = search needs
+
+returns : tie.Need-returns Inv-loop μ-loop
+returns c = search needs
+
+add-p : tie.Need-add-p Inv-loop μ-loop
+add-p c = search needs
+
+loop-less : tie.Need-loop-less Inv-loop μ-loop
+loop-less c = search needs
+
+loop-again : tie.Need-loop-again Inv-loop μ-loop
+loop-again c = search needs
+
+returns-2 : tie.Need-returns-2 Inv-loop μ-loop
+returns-2 c = search needs
+
+pub same-paths-spec : {M : Type 1} → statement M
+same-paths-spec =
+    tie.close
+    (tie.spec
+    Inv-loop
+    μ-loop
+    loop-holds
+    mul-if1
+    array-read-if1
+    mul-if1-2
+    array-read-if1-2
+    mul-if1-3
+    array-read-if1-3
+    mul-if1-4
+    array-read-if1-4
+    returns
+    add-p
+    loop-less
+    loop-again
+    returns-2)
