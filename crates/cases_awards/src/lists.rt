@@ -15,7 +15,8 @@ pub enum Prices {
 // About what the pairs of every list cost.
 const PRICE: u32 = 99_980_000;
 
-// The price of a pair. 37 times a bid's number goes through all numbers below 512, and 141 has no factor in common with 20.
+// The price of a pair. Different: 37 times a bid's number leaves another rest by 512 for each bid, and 141 has no factor in
+// common with 20, so that no two of up to 20 pairs meet. Rising: a bid is 20 above the bid before it, and falls by less.
 fn price_of(prices: Prices, bid: u32, pair: u32) -> u32
     requires { ⌜ bid < 512 ⌝ }
     requires { ⌜ pair < 20 ⌝ }
@@ -27,15 +28,15 @@ fn price_of(prices: Prices, bid: u32, pair: u32) -> u32
     }
 }
 
-// The MW of a pair: all that can be bid in one of 23, and 1 to 499 in the others.
+// The MW of a pair: all that can be bid in one of 46, and 1 to 199 in the others.
 fn quantity_of(bid: u32, pair: u32) -> u32
     requires { ⌜ bid < 512 ⌝ }
     requires { ⌜ pair < 20 ⌝ }
 {
-    if (bid + pair) % 23 == 22 {
+    if (bid * 2 + pair) % 46 == 13 {
         return Engine::QUANTITY_LIMIT;
     }
-    1 + (bid * 331 + pair * 577) % 499
+    1 + (bid * 331 + pair * 577) % 199
 }
 
 // Writes a word at a place of the list, and gives the next place; past the list's end nothing is written.

@@ -7,7 +7,7 @@ use market::answer::Refusal;
 use market::engine::Engine;
 ghost use mathlib.Core.Path.{_≡_};
 ghost use mathlib.Core.Bool.{true};
-ghost use Prim.Native.Nat.{_<_, _≤_};
+ghost use Prim.Native.Nat.{_≤_};
 ghost use lib.ListN.{length};
 ghost use Rattle.market.specs.Books.{every};
 ghost use Rattle.market.specs.Limits.{bidLimit, bidListWords, pathLimit};
