@@ -13,5 +13,6 @@ pub mod Lifting
 pub mod Made
 pub mod RefusedSame
 pub mod Register
+pub mod Silent
 pub mod Start
 pub mod Sums
