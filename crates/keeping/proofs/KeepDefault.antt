@@ -7,7 +7,7 @@ use native.Mathlib.Omega.{arith}
 use lib.Dec.{ltb, eqb}
 use lib.ListN.{length, set}
 use borrow.Author.Tests.{not-false, ltb-true}
-use Rattle.market.proofs.SoundLaws.{BidderBounds, bidder-within}
+use Rattle.market.proofs.SoundLaws.{BidderBounds, bidder-within, AtRound}
 use Rattle.market.proofs.Tables.{none-holds, neither-holds}
 use Rattle.market.specs.Answers.{_gives_, firstOf, drawn}
 use Rattle.market.specs.Books.{bidderOf, heldOf, withBidder}
@@ -23,7 +23,7 @@ use Rattle.register.specs.Words.{written}
 use Rattle.register.specs.declared.Removal.the-variants.{PendingOf}
 use Rattle.billing.specs.Default.{forfeitOf, drawOf, accountForfeited, defaultRefusals, defaultTable, defaulted, entriesLeft, bookForfeited, bookDefaulted, default, defaultWords}
 use Rattle.keeping.proofs.Lifting.{both-kept, draw-comes-in}
-use Rattle.keeping.proofs.Made.{AtRound, bidder-made, bidder-kept, account-kept}
+use Rattle.keeping.proofs.Made.{bidder-made, bidder-kept, account-kept}
 use Rattle.keeping.proofs.Register.{register-kept, every-without}
 use Rattle.keeping.proofs.Sums.{held-after, gained}
 use Rattle.keeping.specs.Money.{cashHeld, heldByAll, Moved, drawIn}

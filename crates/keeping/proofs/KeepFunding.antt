@@ -6,7 +6,7 @@ use Prim.Native.Nat.{ℕ, _+_, _≤_}
 use native.Mathlib.Omega.{arith}
 use lib.ListN.{set}
 use borrow.Author.Tests.{leb-true}
-use Rattle.market.proofs.SoundLaws.{BidderBounds}
+use Rattle.market.proofs.SoundLaws.{BidderBounds, AtRound, at-round, bidder-sound}
 use Rattle.market.specs.Answers.{firstOf, answered}
 use Rattle.market.specs.Books.{heldOf, bidderOf, withBidder}
 use Rattle.market.specs.Limits.{moneyLimit}
@@ -20,7 +20,7 @@ use Rattle.funding.specs.Withdraw.{withdrawable, debited, withdrawRefusals, wit
 use Rattle.funding.specs.declared.Funds.{Funds}
 use Rattle.funding.specs.declared.Funds.the-variants.{Cash, Letter}
 use Rattle.keeping.proofs.Lifting.{book-kept, comes-in, goes-out}
-use Rattle.keeping.proofs.Made.{AtRound, bidder-made, bidder-kept, at-round, bidder-sound}
+use Rattle.keeping.proofs.Made.{bidder-made, bidder-kept}
 use Rattle.keeping.proofs.Sums.{held-after, held-more, held-less}
 use Rattle.keeping.specs.Money.{heldByAll, cashOf, Moved, ifAnswered}
 use Rattle.keeping.specs.State.{State}

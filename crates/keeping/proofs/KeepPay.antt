@@ -9,7 +9,7 @@ use lib.Dec.{ltb, eqb}
 use lib.ListN.{set}
 use borrow.Author.Tests.{not-false, ltb-true, eqb-true}
 use Rattle.market.proofs.Every.{every-map}
-use Rattle.market.proofs.SoundLaws.{BidderBounds, bidder-within}
+use Rattle.market.proofs.SoundLaws.{BidderBounds, bidder-within, AtRound}
 use Rattle.market.proofs.Tables.{none-holds, neither-holds}
 use Rattle.market.specs.Answers.{_gives_, firstOf, answered}
 use Rattle.market.specs.Books.{bidderOf, valueOf, noValue, withBidder}
@@ -24,7 +24,7 @@ use Rattle.register.specs.Refusals.{registerRefusals, countedEntries}
 use Rattle.register.specs.Words.{written}
 use Rattle.billing.specs.Pay.{accountPaid, payRefusals, payTable, paid, bookPaid, pay, payWords}
 use Rattle.keeping.proofs.Lifting.{both-kept, comes-in}
-use Rattle.keeping.proofs.Made.{AtRound, bidder-made, bidder-kept, account-kept}
+use Rattle.keeping.proofs.Made.{bidder-made, bidder-kept, account-kept}
 use Rattle.keeping.proofs.Register.{register-kept, issued-sound}
 use Rattle.keeping.proofs.Sums.{held-after, gained}
 use Rattle.keeping.specs.Money.{cashHeld, heldByAll, Moved, ifAnswered}

@@ -1,18 +1,16 @@
 -- A sound book from its parts, a sound bidder from its bounds, and a state from what a call leaves.
 use mathlib.Core.Path.{_≡_, _∙_, ap₂}
-use mathlib.Core.Bool.{Bool, true, _&&_, or-true}
+use mathlib.Core.Bool.{Bool, true, _&&_}
 use mathlib.Core.List.{List}
 use Prim.Native.Nat.{ℕ, _≤_}
 use native.Mathlib.Omega.{arith}
-use lib.Dec.{leb, eqb}
 use lib.IntN.{ℤ}
 use lib.ListN.{length, length-set}
 use borrow.Author.Tests.{le-leb}
-use Rattle.market.proofs.Every.{every-set, every-at-any}
-use Rattle.market.proofs.SoundLaws.{SoundParts, sound-parts, BidderBounds}
-use Rattle.market.proofs.Tests.{left-true, right-true}
-use Rattle.market.specs.Books.{_implies_, noBidder, bidderOf, noValue, heldOf, withBidder, withAccount}
-use Rattle.market.specs.Limits.{bidderLimit, entryLimit, roundTwoOwedLimit, moneyLimit, owedLimit, stepLimit, registerWords}
+use Rattle.market.proofs.Every.{every-set}
+use Rattle.market.proofs.SoundLaws.{SoundParts, sound-parts, BidderBounds, AtRound}
+use Rattle.market.specs.Books.{heldOf, withBidder, withAccount}
+use Rattle.market.specs.Limits.{bidderLimit, entryLimit, moneyLimit, owedLimit, stepLimit, registerWords}
 use Rattle.market.specs.Sound.{roundOf, soundBidder, soundAccount, soundBook}
 use Rattle.market.specs.declared.book.Bidder.{Bidder}
 use Rattle.market.specs.declared.book.Book.{Book}
@@ -35,11 +33,6 @@ sound-made b p =
 
 -- ---- A bidder
 
--- what the round asks of a bidder
-pub record AtRound (round : ℕ) (x : Bidder) : Type 0 where
-  pub one : (eqb round 1 implies noValue x) ≡ true
-  pub two : (eqb round 2 implies leb (x .owed .0) roundTwoOwedLimit) ≡ true
-
 pub bidder-made : (round : ℕ) (x : Bidder) → AtRound round x → BidderBounds x → soundBidder round x ≡ true
 bidder-made round x a p =
     both
@@ -49,31 +42,6 @@ bidder-made round x a p =
     (le-leb (x .hold .0) (x .letter .0) (p .hold)))
     (le-leb (x .owed .0) owedLimit (p .owed)))
     (le-leb (x .step) stepLimit (p .step))
-
-pub at-round : (round : ℕ) (x : Bidder) → soundBidder round x ≡ true → AtRound round x
-at-round round x h =
-    let one = eqb round 1 implies noValue x in
-    let two = eqb round 2 implies leb (x .owed .0) roundTwoOwedLimit in
-    let held = leb (heldOf x) moneyLimit in
-    let letter = leb (x .letter .0) moneyLimit in
-    let hold = leb (x .hold .0) (x .letter .0) in
-    let owed = leb (x .owed .0) owedLimit in
-    let step = leb (x .step) stepLimit in
-    let h₅ = left-true (one && two && held && letter && hold && owed) step h in
-    let h₄ = left-true (one && two && held && letter && hold) owed h₅ in
-    let h₃ = left-true (one && two && held && letter) hold h₄ in
-    let h₂ = left-true (one && two && held) letter h₃ in
-    let h₁ = left-true (one && two) held h₂ in
-    record { one = left-true one two h₁; two = right-true one two h₁ }
-
--- a bidder with nothing is sound at every round, and so every number of a sound book has a sound bidder
-pub nothing-sound : (round : ℕ) → soundBidder round noBidder ≡ true
-nothing-sound round = simp or-true
-
-pub bidder-sound : (b : Book) (i : ℕ) → soundBook b ≡ true → soundBidder (roundOf (b .stage)) (bidderOf b i) ≡ true
-bidder-sound b i h =
-    let round = roundOf (b .stage) in
-    every-at-any (soundBidder round) (b .bidders) i noBidder (sound-parts b h .bidders) (nothing-sound round)
 
 -- ---- A state, and what a call that is lent the register knows of it
 

@@ -1,17 +1,15 @@
 -- In a sound state the register's refusals never hold: neither 1 for its length nor 2.
 use mathlib.Core.Path.{_≡_, refl, ap₂}
-use mathlib.Core.Bool.{Bool, true, cond, not, _&&_}
+use mathlib.Core.Bool.{Bool, cond, not, _&&_}
 use mathlib.Core.List.{List, _++_}
 use Prim.Native.Nat.{ℕ}
-use lib.Dec.{ltb}
 use lib.ListN.{length}
 use borrow.Author.Tests.{le-ltb}
 use Rattle.market.proofs.Tables.{second-decides}
 use Rattle.market.specs.Answers.{Row, firstOf}
 use Rattle.market.specs.Limits.{registerWords}
-use Rattle.market.specs.Sound.{soundBook}
 use Rattle.market.specs.declared.book.Book.{Book}
-use Rattle.register.specs.Refusals.{soundEntries, countedEntries, registerRefusals}
+use Rattle.register.specs.Refusals.{registerRefusals}
 use Rattle.keeping.specs.State.{State}
 
 pub register-silent : (b : Book) (words : List ℕ) → State b words → firstOf (registerRefusals b words) ≡ 0

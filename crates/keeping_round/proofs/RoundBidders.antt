@@ -10,7 +10,7 @@ use lib.ListN.{length, getD, take, length-set}
 use lib.Seq.{getD-set-other, take-all}
 use borrow.Author.Tests.{leb-true, le-leb, eqb-true}
 use Rattle.market.proofs.Every.{every-at-any}
-use Rattle.market.proofs.SoundLaws.{BidderBounds, bidder-bounds}
+use Rattle.market.proofs.SoundLaws.{BidderBounds, bidder-bounds, AtRound, at-round, nothing-sound}
 use Rattle.market.specs.Books.{every, _implies_, noBidder, heldOf, noValue, valueOf}
 use Rattle.market.specs.Limits.{roundTwoOwedLimit, biddingLimitTop}
 use Rattle.market.specs.Sound.{soundRound, roundOf, kindOf, soundBidder}
@@ -21,7 +21,7 @@ use Rattle.market.specs.declared.book.Stage.{Stage}
 use Rattle.closing.specs.Closing.{swept, sweptTo}
 use Rattle.round.specs.Round.{stageAfter}
 use Rattle.keeping.proofs.KeepOpen.{every-next}
-use Rattle.keeping.proofs.Made.{AtRound, bidder-made, at-round, nothing-sound}
+use Rattle.keeping.proofs.Made.{bidder-made}
 use Rattle.keeping.proofs.Sums.{held-set}
 use Rattle.keeping.specs.Money.{heldByAll}
 use Rattle.keeping_round.proofs.RoundPaths.{Stages}

@@ -9,6 +9,7 @@ use lib.Dec.{eqb}
 use lib.ListN.{getD, take, replicate}
 use lib.Seq.{getD-take}
 use borrow.Author.Tests.{le-leb, eqb-true}
+use Rattle.market.proofs.SoundLaws.{PathBounds, path-bounds}
 use Rattle.market.proofs.Every.{every-at-any}
 use Rattle.market.proofs.Tests.{left-true, right-true}
 use Rattle.market.specs.Books.{every, _implies_, noPath}
@@ -24,7 +25,6 @@ use Rattle.closing.specs.Closing.{withSold, soldTo}
 use Rattle.round.specs.Round.{stageAfter}
 use Rattle.keeping.proofs.KeepOpen.{every-next}
 use Rattle.keeping.proofs.Made.{both}
-use Rattle.round.proofs.RoundBounds.{PathBounds, path-bounds}
 
 -- ---- The stage
 

@@ -9,11 +9,12 @@ use borrow.Author.Tests.{leb-true}
 use Rattle.market.proofs.Every.{every-at-any}
 use Rattle.market.proofs.Tests.{left-true, right-true}
 use Rattle.market.specs.Books.{every, _implies_, pathsOf, noBidder, bidderOf, noValue, heldOf}
-use Rattle.market.specs.Limits.{pathLimit, entryLimit, roundTwoOwedLimit, moneyLimit, owedLimit, stepLimit}
+use Rattle.market.specs.Limits.{pathLimit, zoneLimit, quantityLimit, entryLimit, roundTwoOwedLimit, moneyLimit, owedLimit, stepLimit}
 use Rattle.market.specs.Sound.{soundPathCount, soundStage, roundOf, soundPath, soundBidder, soundAccount, soundBook}
 use Rattle.market.specs.declared.book.Bidder.{Bidder}
 use Rattle.market.specs.declared.book.Book.{Book}
 use Rattle.market.specs.declared.book.Direction.the-variants.{Export}
+use Rattle.market.specs.declared.book.Path.{Path}
 use Rattle.market.specs.declared.book.Route.{Route}
 
 -- what is read past the end of a list of routes
@@ -63,8 +64,14 @@ pub record BidderBounds (x : Bidder) : Type 0 where
   pub owed : x .owed .0 ≤ owedLimit
   pub step : x .step ≤ stepLimit
 
-pub bidder-bounds : (round : ℕ) (x : Bidder) → soundBidder round x ≡ true → BidderBounds x
-bidder-bounds round x h =
+-- what the round asks of a bidder
+pub record AtRound (round : ℕ) (x : Bidder) : Type 0 where
+  pub one : (eqb round 1 implies noValue x) ≡ true
+  pub two : (eqb round 2 implies leb (x .owed .0) roundTwoOwedLimit) ≡ true
+
+-- the parts of a sound bidder
+bidder-parts : (round : ℕ) (x : Bidder) → soundBidder round x ≡ true → AtRound round x × BidderBounds x
+bidder-parts round x h =
     let one = eqb round 1 implies noValue x in
     let two = eqb round 2 implies leb (x .owed .0) roundTwoOwedLimit in
     let held = leb (heldOf x) moneyLimit in
@@ -76,17 +83,31 @@ bidder-bounds round x h =
     let h₄ = left-true (one && two && held && letter && hold) owed h₅ in
     let h₃ = left-true (one && two && held && letter) hold h₄ in
     let h₂ = left-true (one && two && held) letter h₃ in
-    record {
-      held = leb-true (heldOf x) moneyLimit (right-true (one && two) held h₂);
-      letter = leb-true (x .letter .0) moneyLimit (right-true (one && two && held) letter h₃);
-      hold = leb-true (x .hold .0) (x .letter .0) (right-true (one && two && held && letter) hold h₄);
-      owed = leb-true (x .owed .0) owedLimit (right-true (one && two && held && letter && hold) owed h₅);
-      step = leb-true (x .step) stepLimit (right-true (one && two && held && letter && hold && owed) step h);
-    }
+    let h₁ = left-true (one && two) held h₂ in (
+      record { one = left-true one two h₁; two = right-true one two h₁ },
+      record {
+        held = leb-true (heldOf x) moneyLimit (right-true (one && two) held h₂);
+        letter = leb-true (x .letter .0) moneyLimit (right-true (one && two && held) letter h₃);
+        hold = leb-true (x .hold .0) (x .letter .0) (right-true (one && two && held && letter) hold h₄);
+        owed = leb-true (x .owed .0) owedLimit (right-true (one && two && held && letter && hold) owed h₅);
+        step = leb-true (x .step) stepLimit (right-true (one && two && held && letter && hold && owed) step h);
+      },
+    )
 
--- a bidder with nothing is sound at every round
-nothing-sound : (round : ℕ) → soundBidder round noBidder ≡ true
+pub at-round : (round : ℕ) (x : Bidder) → soundBidder round x ≡ true → AtRound round x
+at-round round x h = bidder-parts round x h .0
+
+pub bidder-bounds : (round : ℕ) (x : Bidder) → soundBidder round x ≡ true → BidderBounds x
+bidder-bounds round x h = bidder-parts round x h .1
+
+-- a bidder with nothing is sound at every round, and so every number of a sound book has a sound bidder
+pub nothing-sound : (round : ℕ) → soundBidder round noBidder ≡ true
 nothing-sound round = simp or-true
+
+pub bidder-sound : (b : Book) (i : ℕ) → soundBook b ≡ true → soundBidder (roundOf (b .stage)) (bidderOf b i) ≡ true
+bidder-sound b i h =
+    let round = roundOf (b .stage) in
+    every-at-any (soundBidder round) (b .bidders) i noBidder (sound-parts b h .bidders) (nothing-sound round)
 
 -- bidders within the bounds, at every number
 abbrev pub AllWithin : List Bidder → Type 0
@@ -94,7 +115,26 @@ AllWithin bidders = (i : ℕ) → BidderBounds (getD bidders i noBidder)
 
 -- every number of a sound book has a bidder within the bounds
 pub bidder-within : (b : Book) (i : ℕ) → soundBook b ≡ true → BidderBounds (bidderOf b i)
-bidder-within b i h =
-    let round = roundOf (b .stage) in
-    bidder-bounds round (bidderOf b i)
-    (every-at-any (soundBidder round) (b .bidders) i noBidder (sound-parts b h .bidders) (nothing-sound round))
+bidder-within b i h = bidder-bounds (roundOf (b .stage)) (bidderOf b i) (bidder-sound b i h)
+
+-- the bounds of a sound path
+pub record PathBounds (round : ℕ) (p : Path) : Type 0 where
+  pub zone : p .zone ≤ zoneLimit
+  pub start : (eqb round 1 implies eqb (p .sold .0) 0) ≡ true
+  pub sold : p .sold .0 ≤ p .offer .0
+  pub offer : p .offer .0 ≤ quantityLimit
+
+pub path-bounds : (round : ℕ) (p : Path) → soundPath round p ≡ true → PathBounds round p
+path-bounds round p h =
+    let zone = leb (p .zone) zoneLimit in
+    let start = eqb round 1 implies eqb (p .sold .0) 0 in
+    let sold = leb (p .sold .0) (p .offer .0) in
+    let offer = leb (p .offer .0) quantityLimit in
+    let h₃ = left-true (zone && start && sold) offer h in
+    let h₂ = left-true (zone && start) sold h₃ in
+    record {
+      zone = leb-true (p .zone) zoneLimit (left-true zone start h₂);
+      start = right-true zone start h₂;
+      sold = leb-true (p .sold .0) (p .offer .0) (right-true (zone && start) sold h₃);
+      offer = leb-true (p .offer .0) quantityLimit (right-true (zone && start && sold) offer h);
+    }

@@ -1,19 +1,16 @@
 -- Laws about what entries earn and how amounts add up.
 use mathlib.Core.Path.{_≡_, refl, _∙_, ap}
-use mathlib.Core.Bool.{Bool, true, false, _&&_, or-true}
+use mathlib.Core.Bool.{Bool, true, false, or-true}
 use mathlib.Core.List.{List, [], _∷_, _++_}
 use Prim.Native.Nat.{ℕ, _+_, _*_, _≤_, _<_}
 use native.Mathlib.Nat.{mul-le-mul}
 use native.Mathlib.Omega.{arith}
-use lib.Dec.{leb, eqb}
 use lib.IntN.{ℤ, pos}
 use lib.ListN.{length, getD, take, length-set}
 use lib.Seq.{getD-take}
-use borrow.Author.Tests.{leb-true}
 use Rattle.market.proofs.Every.{every-at-any}
-use Rattle.market.proofs.SoundLaws.{sound-parts}
-use Rattle.market.proofs.Tests.{left-true}
-use Rattle.market.specs.Books.{_implies_, noPath, credit}
+use Rattle.market.proofs.SoundLaws.{sound-parts, path-bounds}
+use Rattle.market.specs.Books.{noPath, credit}
 use Rattle.market.specs.Limits.{zoneLimit, quantityLimit, zones, zonePriceLimit}
 use Rattle.market.specs.Sound.{roundOf, soundPath, soundBook}
 use Rattle.market.specs.declared.book.Book.{Book}
@@ -35,12 +32,7 @@ zone-within b i h below =
     let p = getD (take (b .«path_count») (b .paths)) i noPath in
     let all = every-at-any (soundPath round) (take (b .«path_count») (b .paths)) i noPath (sound-parts b h .paths) (nothing-sound round) in
     let is : p ≡ pathOf b i = getD-take (b .«path_count») (b .paths) i noPath below in
-    let zone = leb (p .zone) zoneLimit in
-    let first = eqb round 1 implies eqb (p .sold .0) 0 in
-    let sold = leb (p .sold .0) (p .offer .0) in
-    let offer = leb (p .offer .0) quantityLimit in
-    let tested = leb-true (p .zone) zoneLimit (left-true zone first (left-true (zone && first) sold (left-true (zone && first && sold) offer all))) in
-    rw is at tested
+    rw is at (path-bounds round p all .zone)
 
 -- the price that an entry sees is sound
 pub hour-sound : (failed : Bool) (prices : List ℤ) (path : Path) → soundPrices failed prices ≡ true → path .zone ≤ zoneLimit → soundHour (hourAt failed prices path) ≡ true

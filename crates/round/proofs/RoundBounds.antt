@@ -8,13 +8,11 @@ use lib.Dec.{leb, ltb, eqb}
 use lib.ListN.{length, getD, replicate}
 use borrow.Author.Tests.{leb-true, le-leb, eqb-true, eqb-false, leb-false}
 use Rattle.market.proofs.Every.{every-at-any, every-append, every-replicate, every-map}
-use Rattle.market.proofs.SoundLaws.{sound-parts}
-use Rattle.market.proofs.Tests.{left-true, right-true}
-use Rattle.market.specs.Books.{every, _implies_, pathsOf}
-use Rattle.market.specs.Limits.{quantityLimit, priceLimit, zoneLimit, pathLimit, bidLimit}
+use Rattle.market.proofs.SoundLaws.{sound-parts, path-bounds}
+use Rattle.market.specs.Books.{every, pathsOf}
+use Rattle.market.specs.Limits.{quantityLimit, priceLimit, pathLimit, bidLimit}
 use Rattle.market.specs.Sound.{soundPath, soundQuantity, soundBook, roundOf, kindOf}
 use Rattle.market.specs.declared.book.Book.{Book}
-use Rattle.market.specs.declared.book.Path.{Path}
 use Rattle.offers.proofs.OfferLaws.{offered-within}
 use Rattle.offers.specs.Offers.{offeredIn}
 use Rattle.bids.specs.Bids.{Bid}
@@ -108,28 +106,6 @@ module _ (paths : ℕ) (offered : List ℕ) (bids : List Bid) (marks : List ℕ)
       price-within path priceLimit (awardsOf offered bids marks) (known paths offered bids marks right (λ l. l .price ≤ priceLimit) (λ l i. i .top))
 
 -- ---- What a sound book offers
-
--- the bounds of a sound path
-pub record PathBounds (round : ℕ) (p : Path) : Type 0 where
-  pub zone : p .zone ≤ zoneLimit
-  pub start : (eqb round 1 implies eqb (p .sold .0) 0) ≡ true
-  pub sold : p .sold .0 ≤ p .offer .0
-  pub offer : p .offer .0 ≤ quantityLimit
-
-pub path-bounds : (round : ℕ) (p : Path) → soundPath round p ≡ true → PathBounds round p
-path-bounds round p h =
-    let zone = leb (p .zone) zoneLimit in
-    let start = eqb round 1 implies eqb (p .sold .0) 0 in
-    let sold = leb (p .sold .0) (p .offer .0) in
-    let offer = leb (p .offer .0) quantityLimit in
-    let h₃ = left-true (zone && start && sold) offer h in
-    let h₂ = left-true (zone && start) sold h₃ in
-    record {
-      zone = leb-true (p .zone) zoneLimit (left-true zone start h₂);
-      start = right-true zone start h₂;
-      sold = leb-true (p .sold .0) (p .offer .0) (right-true (zone && start) sold h₃);
-      offer = leb-true (p .offer .0) quantityLimit (right-true (zone && start && sold) offer h);
-    }
 
 pub offered-quantities : (b : Book) → soundBook b ≡ true → every soundQuantity (offeredNow b) ≡ true
 offered-quantities b h =

@@ -8,7 +8,7 @@ use lib.Dec.{ltb}
 use lib.ListN.{length, getD, replicate, length-append, length-replicate}
 use borrow.Author.Tests.{le-leb}
 use Rattle.market.proofs.Filled.{zeros-at}
-use Rattle.market.proofs.SoundLaws.{sound-parts}
+use Rattle.market.proofs.SoundLaws.{sound-parts, path-bounds}
 use Rattle.market.proofs.Tests.{left-true, right-true}
 use Rattle.market.specs.Books.{every, pathsOf}
 use Rattle.market.specs.Sound.{roundOf, soundPath, soundBook}
@@ -24,7 +24,6 @@ use Rattle.awards.specs.Awards.{Lot, lotsOfBid, lotsFrom, inOrder, walk, awards
 use Rattle.awarding.specs.Tables.{winnersIn}
 use Rattle.clearing.specs.Clearing.{chargeAt, bidRowsFrom, ifWon, entryOf, entriesFrom, newEntries}
 use Rattle.round.specs.Padded.{padded}
-use Rattle.round.proofs.RoundBounds.{path-bounds}
 
 -- a padded list reads as the list
 more-at : (l : List ℕ) (n k : ℕ) → getD (l ++ replicate n 0) k 0 ≡ getD l k 0
