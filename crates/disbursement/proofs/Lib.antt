@@ -3,4 +3,3 @@ pub mod Lists
 pub mod ColumnLaws
 pub mod ShareLaws
 pub mod Cleared
-pub mod Examples

@@ -123,6 +123,11 @@ each-bid P n (b ∷ bs) d h = (
   each-bid P (n + 1) bs d (λ k inside. subst (λ (i : ℕ). P i (getD bs k d)) (let e : n + suc k ≡ n + 1 + k = omega arith in e) (h (suc k) (omega arith))),
 )
 
+-- a fact of every bid by its number
+pub all-bids : (P : ℕ → Bid → Type 0) (bs : List Bid) (d : Bid) → ((k : ℕ) → k < length bs → P k (getD bs k d)) → EachBid P 0 bs
+all-bids P bs d h =
+    each-bid P 0 bs d (λ k inside. subst (λ (i : ℕ). P i (getD bs k d)) (let e : k ≡ 0 + k = omega arith in e) (h k inside))
+
 -- what is filled of a bid is worth at most all of it
 filled-within : (won : ℕ) (ls : List Lamination) → filledValue won ls ≤ laminationsValue ls
 filled-within won [] = omega arith
@@ -148,7 +153,7 @@ module _ (paths : ℕ) (offered : List ℕ) (bids : List Bid) (marks : List ℕ)
   awards = awardsOf offered bids marks
 
   -- a charge by the tables is at most the charge by the awards
-  charge-table : (k : ℕ) (b : Bid) → chargeAt (below n (λ bid. wonBy bid awards)) (below m (λ path. priceOn path awards)) k b ≤ chargeOf k b awards
+  pub charge-table : (k : ℕ) (b : Bid) → chargeAt (below n (λ bid. wonBy bid awards)) (below m (λ path. priceOn path awards)) k b ≤ chargeOf k b awards
   charge-table k b =
       mul-le-mul (below-most m (λ path. priceOn path awards) (b .path)) (below-most n (λ bid. wonBy bid awards) k)
 
@@ -167,8 +172,7 @@ module _ (paths : ℕ) (offered : List ℕ) (bids : List Bid) (marks : List ℕ)
 
   charged-each : EachBid (Charged (below n (λ bid. wonBy bid awards)) (below m (λ path. priceOn path awards)) marks) 0 bids
   charged-each =
-      each-bid (Charged (below n (λ bid. wonBy bid awards)) (below m (λ path. priceOn path awards)) marks) 0 bids noBid
-      (λ k inside. subst (λ (i : ℕ). Charged (below n (λ bid. wonBy bid awards)) (below m (λ path. priceOn path awards)) marks i (getD bids k noBid)) (let e : k ≡ 0 + k = omega arith in e) (charged-at k inside))
+      all-bids (Charged (below n (λ bid. wonBy bid awards)) (below m (λ path. priceOn path awards)) marks) bids noBid charged-at
 
 -- ---- The limits
 

@@ -51,7 +51,7 @@ module _ (words : List ℕ) (count : ℕ) (more : List Entry) where
       let first = entries-length words count in
       omega (arith, both, first)
 
-  more-read : entriesOf (written words (entriesOf words count ++ more)) (count + length more) ≡ entriesOf words count ++ more
+  pub more-read : entriesOf (written words (entriesOf words count ++ more)) (count + length more) ≡ entriesOf words count ++ more
   more-read =
       ap (entriesOf (written words (entriesOf words count ++ more))) (sym more-counted)
       ∙ entries-read words (entriesOf words count ++ more)

@@ -54,7 +54,7 @@ fn answered(
 // A round of the open auction. `words` is the register, `bids` the list of bids, `answers` and `results` the lists for the answers
 // of bids and paths, and `scratch` what the order is found in. Nothing that is lent is touched before it is known that nothing
 // is refused; after an answered round the scratch may hold any words.
-fn round(
+pub fn round(
     book: Book,
     words: &mut [u32],
     bids: &[u32],

@@ -1,0 +1,2 @@
+-- A law of the scratch after a call.
+pub mod Scratch

@@ -1,0 +1,70 @@
+// The engine's face: one call that is any of the eleven.
+pub mod calls;
+
+use calls::Call;
+use market::answer::Outcome;
+use market::book::Book;
+ghost use mathlib.Core.Path.{_≡_};
+ghost use Rattle.engine.specs.Lent.{lent};
+ghost use Rattle.engine.specs.Step as rules;
+
+// Any of the eleven calls. `words` is the register. Of the lists a call uses its own: open `quantities`; a round `bids`, and
+// `answers`, `results` and `scratch` to write to; payout `prices`; disburse and recover the four columns; and these three write to
+// `amounts`.
+pub fn call(
+    book: Book,
+    words: &mut [u32],
+    what: Call,
+    quantities: &[u32],
+    bids: &[u32],
+    prices: &[i64],
+    provincial: &[u32],
+    export: &[u32],
+    meters: &[u32],
+    interties: &[u32],
+    amounts: &mut [u64],
+    answers: &mut [u64],
+    results: &mut [u64],
+    scratch: &mut [u32],
+) -> Outcome
+    ensures outcome { λ r. ⌜ r ≡ rules.step book (now (words .entry)) what (lent (now (quantities .entry)) (now (bids .entry)) (now (prices .entry)) (now (provincial .entry)) (now (export .entry)) (now (meters .entry)) (now (interties .entry)) (now (amounts .entry)) (now (answers .entry)) (now (results .entry)) (now (scratch .entry))) .outcome ⌝ }
+    ensures register { λ r. ⌜ now (words .exit) ≡ rules.step book (now (words .entry)) what (lent (now (quantities .entry)) (now (bids .entry)) (now (prices .entry)) (now (provincial .entry)) (now (export .entry)) (now (meters .entry)) (now (interties .entry)) (now (amounts .entry)) (now (answers .entry)) (now (results .entry)) (now (scratch .entry))) .words ⌝ }
+    ensures amounts { λ r. ⌜ now (amounts .exit) ≡ rules.step book (now (words .entry)) what (lent (now (quantities .entry)) (now (bids .entry)) (now (prices .entry)) (now (provincial .entry)) (now (export .entry)) (now (meters .entry)) (now (interties .entry)) (now (amounts .entry)) (now (answers .entry)) (now (results .entry)) (now (scratch .entry))) .amounts ⌝ }
+    ensures bids { λ r. ⌜ now (answers .exit) ≡ rules.step book (now (words .entry)) what (lent (now (quantities .entry)) (now (bids .entry)) (now (prices .entry)) (now (provincial .entry)) (now (export .entry)) (now (meters .entry)) (now (interties .entry)) (now (amounts .entry)) (now (answers .entry)) (now (results .entry)) (now (scratch .entry))) .answers ⌝ }
+    ensures paths { λ r. ⌜ now (results .exit) ≡ rules.step book (now (words .entry)) what (lent (now (quantities .entry)) (now (bids .entry)) (now (prices .entry)) (now (provincial .entry)) (now (export .entry)) (now (meters .entry)) (now (interties .entry)) (now (amounts .entry)) (now (answers .entry)) (now (results .entry)) (now (scratch .entry))) .results ⌝ }
+    ensures scratch { λ r. ⌜ rules.ScratchHolds (rules.step book (now (words .entry)) what (lent (now (quantities .entry)) (now (bids .entry)) (now (prices .entry)) (now (provincial .entry)) (now (export .entry)) (now (meters .entry)) (now (interties .entry)) (now (amounts .entry)) (now (answers .entry)) (now (results .entry)) (now (scratch .entry))) .free) (now (scratch .entry)) (now (scratch .exit)) ⌝ }
+{
+    match what {
+        Call::Deposit { bidder, to, amount } => funding::deposit(book, bidder, to, amount),
+        Call::Withdraw {
+            bidder,
+            from,
+            amount,
+        } => funding::withdraw(book, bidder, from, amount),
+        Call::Open { kind, period } => opening::open(book, words, kind, period, quantities),
+        Call::Round => round::round(book, words, bids, answers, results, scratch),
+        Call::Pay { bidder, amount } => billing::pay(book, words, bidder, amount),
+        Call::Default { bidder } => billing::default(book, words, bidder),
+        Call::Retire { day } => retire::retire(book, words, day),
+        Call::Rent { amount } => rent::rent(book, amount),
+        Call::Payout { day, failed } => payout::payout(book, words, day, failed, prices, amounts),
+        Call::Disburse { total } => disbursement::disburse(
+            book,
+            total,
+            provincial,
+            export,
+            meters,
+            interties,
+            amounts,
+        ),
+        Call::Recover { total } => disbursement::recover(
+            book,
+            total,
+            provincial,
+            export,
+            meters,
+            interties,
+            amounts,
+        ),
+    }
+}

@@ -1,0 +1,202 @@
+-- What the lists of an answered round say: no rival award is worth more, and no bid or bidder is charged more than its bid value.
+use mathlib.Core.Path.{_≡_, refl, sym, _∙_, ap, ap₂, subst}
+use mathlib.Core.Bool.{Bool, true, false, cond}
+use mathlib.Core.List.{List, [], _∷_}
+use Prim.Native.Nat.{ℕ, zero, suc, _+_, _≤_, _<_}
+use native.Mathlib.Omega.{arith}
+use lib.Dec.{eqb}
+use lib.ListN.{length, getD, replicate}
+use Rattle.market.proofs.Tables.{is-taken, list-taken}
+use Rattle.market.specs.Answers.{answerNumber, firstOf, decided}
+use Rattle.market.specs.Limits.{bidLimit, pathLimit, bidderLimit}
+use Rattle.market.specs.declared.answer.Answer.the-variants.{Bids}
+use Rattle.market.specs.declared.answer.Outcome.{Outcome}
+use Rattle.market.specs.declared.book.Book.{Book}
+use Rattle.bids.proofs.Walk.{bids-few}
+use Rattle.bids.specs.Bids.{Bid, bidsOf}
+use Rattle.bids.specs.Encoding.{rightBids}
+use Rattle.admission.proofs.MarkLaws.{marks-length}
+use Rattle.admission.specs.Admission.{biddingLimits}
+use Rattle.awards.proofs.BestAward.{best-award, charge-within}
+use Rattle.awards.proofs.RoundLots.{EachBid}
+use Rattle.awards.specs.Awards.{Lot, lotsOf, awardsOf, wonBy, chargeOf}
+use Rattle.awards.specs.Rivals.{Rival, Legal, rivalValue, filledValue, valueFrom, totalValue}
+use Rattle.awarding.proofs.TableLaws.{below-at, below-length, table-is}
+use Rattle.awarding.specs.Tables.{below}
+use Rattle.clearing.specs.Clearing.{bidRows, laid}
+use Rattle.closing.specs.Closing.{pathRows}
+use Rattle.round.proofs.ReadyLaws.{listed}
+use Rattle.round.proofs.RoundBounds.{noBid}
+use Rattle.round.specs.Round.{offeredNow, marksNow, awardsNow, wonNow, soldNow, pricesNow, bookAfter, roundTable, round, roundBidAnswers, roundPathAnswers}
+use Rattle.keeping_round.proofs.ChargeLimits.{all-bids, below-most, charge-table}
+use Rattle.keeping_round.proofs.RoundCleared.{RoundOpen, round-cleared}
+use Rattle.engine.specs.Lent.{Lent}
+use Rattle.engine.specs.Step.{step}
+use Rattle.engine.specs.declared.calls.Call.the-variants.{Round}
+use Rattle.promise.specs.Answered.{markIn, wonIn, chargeIn, offeredIn, NoRivalAbove, BidsWithin, BiddersWithin, ofBidder}
+use Rattle.promise.specs.Runs.{Made, engineMade}
+use Rattle.promise.proofs.RowReads.{mark-read, won-read, charge-read, offered-read}
+
+-- ---- Sums over bids
+
+value-same : (f g : ℕ → ℕ) (n : ℕ) (bs : List Bid) → EachBid (λ k b. f k ≡ g k) n bs → valueFrom f n bs ≡ valueFrom g n bs
+value-same f g n [] same = refl
+value-same f g n (b ∷ bs) same =
+    ap₂ (λ (won rest : ℕ). filledValue won (b .laminations) + rest) (same .0) (value-same f g (n + 1) bs (same .1))
+
+one-under : (t : Bool) (x y : ℕ) → x ≤ y → cond t x 0 ≤ cond t y 0
+one-under true x y most = most
+one-under false x y most = omega arith
+
+bidder-under : (bidder : ℕ) (f g : ℕ → Bid → ℕ) (n : ℕ) (bs : List Bid) → EachBid (λ k b. f k b ≤ g k b) n bs → ofBidder bidder f n bs ≤ ofBidder bidder g n bs
+bidder-under bidder f g n [] most = omega arith
+bidder-under bidder f g n (b ∷ bs) most =
+    omega (
+      arith,
+      one-under (eqb (b .bidder) bidder) (f n b) (g n b) (most .0),
+      bidder-under bidder f g (n + 1) bs (most .1),
+    )
+
+-- ---- Offers
+
+-- the table of a list's numbers has no more at any place than the list
+below-under : (n : ℕ) (f : ℕ → ℕ) (l : List ℕ) → ((i : ℕ) → i < n → f i ≡ getD l i 0) → (i : ℕ) → getD (below n f) i 0 ≤ getD l i 0
+below-under n f l same i =
+    let alike : below n (λ k. getD l k 0) ≡ below n f = table-is (below n (λ k. getD l k 0)) n f (below-length n (λ k. getD l k 0))
+    (λ k inside. below-at n (λ k. getD l k 0) k inside ∙ sym (same k inside)) in
+    omega (arith, ap (λ (m : List ℕ). getD m i 0) alike, below-most n (λ k. getD l k 0) i)
+
+-- where more is offered, what was within the offer still is
+legal-with-more : (less more : List ℕ) (lots : List Lot) (gives : Rival) → ((path : ℕ) → getD less path 0 ≤ getD more path 0) → Legal less lots gives → Legal more lots gives
+legal-with-more less more lots gives under legal =
+    record { own = legal .own; shared = λ path. omega (arith, legal .shared path, under path) }
+
+-- ---- Lists that read as an award
+
+module _ (paths : ℕ) (offered : List ℕ) (bids : List Bid) (marks : List ℕ) (right : rightBids paths bids ≡ true) (answers : List ℕ) (wins : (k : ℕ) → k < length bids → wonIn answers k ≡ wonBy k (awardsOf offered bids marks)) where
+  module _ (results : List ℕ) (count : ℕ) (long : length marks ≡ length bids) (marked : (k : ℕ) → k < length bids → markIn answers k ≡ getD marks k 0) (offers : (path : ℕ) → path < count → offeredIn results path ≡ getD offered path 0) where
+    same-lots : lotsOf bids marks ≡ lotsOf bids (below (length bids) (markIn answers))
+    same-lots =
+        ap (λ (l : List ℕ). lotsOf bids l)
+        (table-is marks (length bids) (markIn answers) long (λ k inside. sym (marked k inside)))
+
+    best-of : (gives : Rival) → Legal (below count (offeredIn results)) (lotsOf bids marks) gives → rivalValue gives (lotsOf bids marks) ≤ totalValue (wonIn answers) bids
+    best-of gives legal =
+        let awards = awardsOf offered bids marks in
+        let value = value-same (wonIn answers) (λ k. wonBy k awards) 0 bids (all-bids (λ k b. wonIn answers k ≡ wonBy k awards) bids noBid wins) in
+        let more = legal-with-more (below count (offeredIn results)) offered (lotsOf bids marks) gives (below-under count (offeredIn results) offered offers) legal in
+        omega (arith, value, best-award paths offered bids marks right gives more)
+
+    best-read : (gives : Rival) → Legal (below count (offeredIn results)) (lotsOf bids (below (length bids) (markIn answers))) gives → rivalValue gives (lotsOf bids (below (length bids) (markIn answers))) ≤ totalValue (wonIn answers) bids
+    best-read =
+        subst (λ (lots : List Lot). (gives : Rival) → Legal (below count (offeredIn results)) lots gives → rivalValue gives lots ≤ totalValue (wonIn answers) bids) same-lots best-of
+
+  module _ (charged : (k : ℕ) (d : Bid) → k < length bids → chargeIn answers k ≤ chargeOf k (getD bids k d) (awardsOf offered bids marks)) where
+    charges-read : (k : ℕ) (d : Bid) → k < length bids → chargeIn answers k ≤ filledValue (wonIn answers k) (getD bids k d .laminations)
+    charges-read k d inside =
+        let same = ap (λ (won : ℕ). filledValue won (getD bids k d .laminations)) (wins k inside) in
+        omega (arith, same, charged k d inside, charge-within paths offered bids marks right k d inside)
+
+    bidders-read : (bidder : ℕ) → ofBidder bidder (λ k b. chargeIn answers k) 0 bids ≤ ofBidder bidder (λ k b. filledValue (wonIn answers k) (b .laminations)) 0 bids
+    bidders-read bidder =
+        bidder-under bidder (λ k b. chargeIn answers k) (λ k b. filledValue (wonIn answers k) (b .laminations)) 0 bids
+        (all-bids (λ k b. chargeIn answers k ≤ filledValue (wonIn answers k) (b .laminations)) bids noBid (λ k inside. charges-read k noBid inside))
+
+-- ---- An answered round
+
+none-refused : (b : Book) (n : ℕ) (taken : Outcome) → answerNumber (decided b n taken .answer) ≡ 0 → n ≡ 0
+none-refused b zero taken none = refl
+none-refused b (suc n) taken none = none
+
+-- a round, as the engine made it
+abbrev pub roundMade : Book → List ℕ → Lent → Made
+roundMade b words l = engineMade (record { what = Round; lent = l }) (step b words Round l)
+
+module _ (b : Book) (words : List ℕ) (l : Lent) (none : answerNumber (round b words (l .bids) (l .answers) (l .results) (l .scratch) .answer) ≡ 0) where
+  abbrev bids : List Bid
+  bids = bidsOf (l .bids)
+
+  abbrev marks : List ℕ
+  marks = marksNow b bids
+
+  abbrev answers : List ℕ
+  answers = roundBidAnswers b words (l .bids) (l .answers) (l .results) (l .scratch)
+
+  abbrev results : List ℕ
+  results = roundPathAnswers b words (l .bids) (l .answers) (l .results) (l .scratch)
+
+  abbrev after : Book
+  after = round b words (l .bids) (l .answers) (l .results) (l .scratch) .book
+
+  abbrev refusal : ℕ
+  refusal = firstOf (roundTable b words (l .bids) (l .answers) (l .results) (l .scratch))
+
+  abbrev taken : Outcome
+  taken = record { answer = Bids (length bids); book = bookAfter b bids }
+
+  -- nothing refuses it
+  cleared : refusal ≡ 0
+  unfolding round
+  cleared = none-refused b refusal taken none
+
+  opened : RoundOpen b words (l .bids) (l .answers) (l .results) (l .scratch)
+  opened = round-cleared b words (l .bids) (l .answers) (l .results) (l .scratch) cleared
+
+  few : length bids ≤ bidLimit
+  few =
+      bids-few pathLimit (l .bids) (listed b words (l .bids) (l .answers) (l .results) (l .scratch) (opened .early)) (opened .early .short)
+
+  -- its lists, and the number of the book's paths
+  answers-are : answers ≡ laid (l .answers) (bidRows marks (wonNow b bids) (pricesNow b bids) bids)
+  unfolding roundBidAnswers
+  answers-are = list-taken (l .answers) refusal (laid (l .answers) (bidRows marks (wonNow b bids) (pricesNow b bids) bids)) cleared
+
+  results-are : results ≡ laid (l .results) (pathRows (offeredNow b) (soldNow b bids) (pricesNow b bids) (b .«path_count»))
+  unfolding roundPathAnswers
+  results-are =
+      list-taken (l .results) refusal
+      (laid (l .results) (pathRows (offeredNow b) (soldNow b bids) (pricesNow b bids) (b .«path_count»))) cleared
+
+  same-paths : after .«path_count» ≡ b .«path_count»
+  unfolding round
+  same-paths = ap (λ (o : Outcome). o .book .«path_count») (is-taken b refusal taken cleared)
+
+  -- the words of its lists
+  marked : (k : ℕ) → k < length bids → markIn answers k ≡ getD marks k 0
+  marked k inside =
+      ap (λ (words : List ℕ). markIn words k) answers-are
+      ∙ mark-read marks (wonNow b bids) (pricesNow b bids) bids (l .answers) k noBid inside
+
+  wins : (k : ℕ) → k < length bids → wonIn answers k ≡ wonBy k (awardsOf (offeredNow b) bids marks)
+  unfolding awardsNow
+  wins k inside =
+      ap (λ (words : List ℕ). wonIn words k) answers-are
+      ∙ won-read marks (wonNow b bids) (pricesNow b bids) bids (l .answers) k noBid inside
+      ∙ below-at bidLimit (λ bid. wonBy bid (awardsNow b bids)) k (omega (arith, few))
+
+  charged : (k : ℕ) (d : Bid) → k < length bids → chargeIn answers k ≤ chargeOf k (getD bids k d) (awardsOf (offeredNow b) bids marks)
+  unfolding awardsNow
+  charged k d inside =
+      rw answers-are
+      (rw (charge-read marks (wonNow b bids) (pricesNow b bids) bids (l .answers) k d inside)
+      (charge-table (b .«path_count») (offeredNow b) bids marks (opened .right) bidLimit pathLimit k (getD bids k d)))
+
+  offers : (path : ℕ) → path < after .«path_count» → offeredIn results path ≡ getD (offeredNow b) path 0
+  offers path inside =
+      ap (λ (words : List ℕ). offeredIn words path) results-are
+      ∙ offered-read (offeredNow b) (soldNow b bids) (pricesNow b bids) (b .«path_count») (l .results) path
+      (omega (arith, same-paths))
+
+  -- "in each answered round its total bid value is at least that of every rival award"
+  pub no-rival-above : NoRivalAbove (roundMade b words l)
+  no-rival-above =
+      best-read (b .«path_count») (offeredNow b) bids marks (opened .right) answers wins results (after .«path_count»)
+      (marks-length (biddingLimits b) (replicate bidderLimit 0) bids) marked offers
+
+  -- "no bid is charged more than its bid value for what it won"
+  pub bids-within : BidsWithin (roundMade b words l)
+  bids-within = charges-read (b .«path_count») (offeredNow b) bids marks (opened .right) answers wins charged
+
+  -- and so no bidder
+  pub bidders-within : BiddersWithin (roundMade b words l)
+  bidders-within = bidders-read (b .«path_count») (offeredNow b) bids marks (opened .right) answers wins charged

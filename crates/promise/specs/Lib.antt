@@ -1,0 +1,6 @@
+-- The promise over every list of calls, and what it speaks of.
+pub mod Rules
+pub mod Runs
+pub mod Answered
+pub mod Sums
+pub mod Promise

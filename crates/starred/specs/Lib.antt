@@ -1,0 +1,2 @@
+-- The starred cases, as rows about the rules.
+pub mod Cases
