@@ -53,7 +53,7 @@ module _ (words : List ℕ) where
       ∙ sym (drop-cons words at 0 (omega arith))
 
   -- a whole bid is the words at its place
-  bid-back : (at : ℕ) → bidEnd words at ≤ length words → bidEncoded (bidAt words at) ++ drop (bidEnd words at) words ≡ drop at words
+  pub bid-back : (at : ℕ) → bidEnd words at ≤ length words → bidEncoded (bidAt words at) ++ drop (bidEnd words at) words ≡ drop at words
   bid-back at fits =
       ap (λ (n : ℕ). getD words at 0 ∷ getD words (at + 1) 0 ∷ getD words (at + 2) 0 ∷ n ∷ (pairsEncoded (bidAt words at .laminations) ++ drop (bidEnd words at) words))
       (laminations-count words (pairsFrom at) (headerAt words at .count))
@@ -127,7 +127,7 @@ pairs-read words rest (l ∷ ls) at is =
     ∙ ap (l ∷_) (pairs-read words rest ls (at + pairWords) (sym (drop-drop pairWords at words) ∙ ap (drop pairWords) is))
 
 -- so many words have pairs
-pairs-length : (ls : List Lamination) → length (pairsEncoded ls) ≡ length ls * pairWords
+pub pairs-length : (ls : List Lamination) → length (pairsEncoded ls) ≡ length ls * pairWords
 pairs-length [] = refl
 pairs-length (l ∷ ls) =
     let more = pairs-length ls in
@@ -144,7 +144,7 @@ module _ (words rest : List ℕ) (b : Bid) (at : ℕ) (is : drop at words ≡ bi
   pairs-there : drop (pairsFrom at) words ≡ pairsEncoded (b .laminations) ++ rest
   pairs-there = sym (drop-drop headerWords at words) ∙ ap (drop headerWords) is
 
-  bid-read : bidAt words at ≡ b
+  pub bid-read : bidAt words at ≡ b
   bid-read =
       let zeroth : getD words at 0 ≡ b .bidder = ap (λ (i : ℕ). getD words i 0) (let same : at ≡ at + 0 = omega arith in same) ∙ word 0 in
       let pairs : laminationsAt words (pairsFrom at) (headerAt words at .count) ≡ b .laminations =

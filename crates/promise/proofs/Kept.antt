@@ -17,7 +17,7 @@ use Rattle.engine.specs.Lent.{Lent, columnsOf}
 use Rattle.engine.specs.Step.{step}
 use Rattle.engine.specs.declared.calls.Call.{Call}
 use Rattle.engine.specs.declared.calls.Call.the-variants.{Deposit, Withdraw, Open, Round, Pay, Default, Retire, Rent, Payout, Disburse, Recover}
-use Rattle.promise.specs.Runs.{Request, Made, engineMade, engineStep}
+use Rattle.promise.specs.Runs.{Request, engineMade, engineStep}
 use Rattle.promise.specs.Sums.{moneyIn, moneyOut}
 
 module _ (b : Book) (words : List ℕ) (state : State b words) where

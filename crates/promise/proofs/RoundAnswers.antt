@@ -27,13 +27,14 @@ use Rattle.clearing.specs.Clearing.{bidRows, laid}
 use Rattle.closing.specs.Closing.{pathRows}
 use Rattle.round.proofs.ReadyLaws.{listed}
 use Rattle.round.proofs.RoundBounds.{noBid}
+use Rattle.round.specs.Answers.{markIn, wonIn, chargeIn, offeredIn}
 use Rattle.round.specs.Round.{offeredNow, marksNow, awardsNow, wonNow, soldNow, pricesNow, bookAfter, roundTable, round, roundBidAnswers, roundPathAnswers}
 use Rattle.keeping_round.proofs.ChargeLimits.{all-bids, below-most, charge-table}
 use Rattle.keeping_round.proofs.RoundCleared.{RoundOpen, round-cleared}
 use Rattle.engine.specs.Lent.{Lent}
 use Rattle.engine.specs.Step.{step}
 use Rattle.engine.specs.declared.calls.Call.the-variants.{Round}
-use Rattle.promise.specs.Answered.{markIn, wonIn, chargeIn, offeredIn, NoRivalAbove, BidsWithin, BiddersWithin, ofBidder}
+use Rattle.promise.specs.Answered.{NoRivalAbove, BidsWithin, BiddersWithin, ofBidder}
 use Rattle.promise.specs.Runs.{Made, engineMade}
 use Rattle.promise.proofs.RowReads.{mark-read, won-read, charge-read, offered-read}
 
@@ -139,19 +140,19 @@ module _ (b : Book) (words : List ℕ) (l : Lent) (none : answerNumber (round b 
   unfolding round
   cleared = none-refused b refusal taken none
 
-  opened : RoundOpen b words (l .bids) (l .answers) (l .results) (l .scratch)
+  pub opened : RoundOpen b words (l .bids) (l .answers) (l .results) (l .scratch)
   opened = round-cleared b words (l .bids) (l .answers) (l .results) (l .scratch) cleared
 
-  few : length bids ≤ bidLimit
+  pub few : length bids ≤ bidLimit
   few =
       bids-few pathLimit (l .bids) (listed b words (l .bids) (l .answers) (l .results) (l .scratch) (opened .early)) (opened .early .short)
 
   -- its lists, and the number of the book's paths
-  answers-are : answers ≡ laid (l .answers) (bidRows marks (wonNow b bids) (pricesNow b bids) bids)
+  pub answers-are : answers ≡ laid (l .answers) (bidRows marks (wonNow b bids) (pricesNow b bids) bids)
   unfolding roundBidAnswers
   answers-are = list-taken (l .answers) refusal (laid (l .answers) (bidRows marks (wonNow b bids) (pricesNow b bids) bids)) cleared
 
-  results-are : results ≡ laid (l .results) (pathRows (offeredNow b) (soldNow b bids) (pricesNow b bids) (b .«path_count»))
+  pub results-are : results ≡ laid (l .results) (pathRows (offeredNow b) (soldNow b bids) (pricesNow b bids) (b .«path_count»))
   unfolding roundPathAnswers
   results-are =
       list-taken (l .results) refusal

@@ -6,13 +6,13 @@ use Prim.Native.Nat.{ℕ, zero, suc, _+_, _*_, _<_}
 use native.Mathlib.Omega.{arith}
 use lib.Dec.{eqb}
 use lib.ListN.{length, getD, drop, length-append, List·getD-append}
-use lib.Seq.{getD-at}
+use lib.Seq.{getD-append-add}
 use borrow.Author.Tests.{eqb-true, eqb-false}
 use Rattle.market.specs.Limits.{bidAnswerSize, pathAnswerSize}
-use Rattle.bids.specs.Bids.{Bid}
+use Rattle.bids.specs.Bids.{Bid, bidValue}
 use Rattle.clearing.specs.Clearing.{chargeAt, bidRow, bidRowsFrom, bidRows, laid}
 use Rattle.closing.specs.Closing.{pathRow, pathRows}
-use Rattle.promise.specs.Answered.{markIn, wonIn, chargeIn, offeredIn}
+use Rattle.round.specs.Answers.{markIn, valueIn, wonIn, chargeIn, offeredIn, soldIn, priceIn}
 
 -- ---- Bids
 
@@ -39,6 +39,9 @@ module _ (marks won prices : List ℕ) (bids : List Bid) (before : List ℕ) (k 
       ap (λ (i : ℕ). getD (laid before (bidRows marks won prices bids)) i 0) (let e : k * bidAnswerSize ≡ k * bidAnswerSize + 0 = omega arith in e)
       ∙ word-at 0 (omega arith)
 
+  pub value-read : valueIn (laid before (bidRows marks won prices bids)) k ≡ bidValue (getD bids k d)
+  value-read = word-at 1 (omega arith)
+
   pub won-read : wonIn (laid before (bidRows marks won prices bids)) k ≡ getD won k 0
   won-read = word-at 2 (omega arith)
 
@@ -52,20 +55,36 @@ rows-length offered sold prices zero = refl
 rows-length offered sold prices (suc n) =
     omega (arith, rows-length offered sold prices n, length-append (pathRows offered sold prices n) (pathRow offered sold prices n))
 
-offered-at : (offered sold prices : List ℕ) (n : ℕ) (rest : List ℕ) (path : ℕ) → path < n → getD (pathRows offered sold prices n ++ rest) (path * pathAnswerSize) 0 ≡ getD offered path 0
-offered-at offered sold prices zero rest path below = absurd (let no : ⊥ = omega arith in no)
-offered-at offered sold prices (suc n) rest path below =
-    ap (λ (l : List ℕ). getD l (path * pathAnswerSize) 0) (append-assoc (pathRows offered sold prices n) (pathRow offered sold prices n) rest)
-    ∙ go (eqb path n) refl (λ less. offered-at offered sold prices n (pathRow offered sold prices n ++ rest) path less)
+path-at : (offered sold prices : List ℕ) (n : ℕ) (rest : List ℕ) (path j : ℕ) → path < n → j < pathAnswerSize → getD (pathRows offered sold prices n ++ rest) (path * pathAnswerSize + j) 0 ≡ getD (pathRow offered sold prices path) j 0
+path-at offered sold prices zero rest path j below inside = absurd (let none : ⊥ = omega arith in none)
+path-at offered sold prices (suc n) rest path j below inside =
+    ap (λ (l : List ℕ). getD l (path * pathAnswerSize + j) 0) (append-assoc (pathRows offered sold prices n) row rest)
+    ∙ go (eqb path n) refl (λ less. path-at offered sold prices n (row ++ rest) path j less inside)
   where
-    go : (t : Bool) → eqb path n ≡ t → (path < n → getD (pathRows offered sold prices n ++ (pathRow offered sold prices n ++ rest)) (path * pathAnswerSize) 0 ≡ getD offered path 0) → getD (pathRows offered sold prices n ++ (pathRow offered sold prices n ++ rest)) (path * pathAnswerSize) 0 ≡ getD offered path 0
+    row : List ℕ
+    row = pathRow offered sold prices n
+
+    go : (t : Bool) → eqb path n ≡ t → (path < n → getD (pathRows offered sold prices n ++ (row ++ rest)) (path * pathAnswerSize + j) 0 ≡ getD (pathRow offered sold prices path) j 0) → getD (pathRows offered sold prices n ++ (row ++ rest)) (path * pathAnswerSize + j) 0 ≡ getD (pathRow offered sold prices path) j 0
     go true e earlier =
         let same : path ≡ n = eqb-true path n e in
-        getD-at (pathRows offered sold prices n) (getD offered n 0) (getD sold n 0 ∷ getD prices n 0 ∷ rest) 0 (path * pathAnswerSize)
-        (omega (arith, rows-length offered sold prices n))
-        ∙ ap (λ (i : ℕ). getD offered i 0) (sym same)
+        let rows = pathRows offered sold prices n in
+        ap (λ (i : ℕ). getD (rows ++ (row ++ rest)) i 0) (let at : path * pathAnswerSize + j ≡ length rows + j = omega (arith, rows-length offered sold prices n, same) in at)
+        ∙ getD-append-add rows (row ++ rest) j 0
+        ∙ List·getD-append row rest 0 j inside
+        ∙ ap (λ (i : ℕ). getD (pathRow offered sold prices i) j 0) (sym same)
     go false e earlier = earlier (omega (arith, eqb-false path n e))
 
-pub offered-read : (offered sold prices : List ℕ) (n : ℕ) (before : List ℕ) (path : ℕ) → path < n → offeredIn (laid before (pathRows offered sold prices n)) path ≡ getD offered path 0
-offered-read offered sold prices n before path below =
-    offered-at offered sold prices n (drop (length (pathRows offered sold prices n)) before) path below
+module _ (offered sold prices : List ℕ) (n : ℕ) (before : List ℕ) (path : ℕ) (below : path < n) where
+  path-word : (j : ℕ) → j < pathAnswerSize → getD (laid before (pathRows offered sold prices n)) (path * pathAnswerSize + j) 0 ≡ getD (pathRow offered sold prices path) j 0
+  path-word j inside = path-at offered sold prices n (drop (length (pathRows offered sold prices n)) before) path j below inside
+
+  pub offered-read : offeredIn (laid before (pathRows offered sold prices n)) path ≡ getD offered path 0
+  offered-read =
+      ap (λ (i : ℕ). getD (laid before (pathRows offered sold prices n)) i 0) (let e : path * pathAnswerSize ≡ path * pathAnswerSize + 0 = omega arith in e)
+      ∙ path-word 0 (omega arith)
+
+  pub sold-read : soldIn (laid before (pathRows offered sold prices n)) path ≡ getD sold path 0
+  sold-read = path-word 1 (omega arith)
+
+  pub price-read : priceIn (laid before (pathRows offered sold prices n)) path ≡ getD prices path 0
+  price-read = path-word 2 (omega arith)

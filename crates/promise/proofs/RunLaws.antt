@@ -1,11 +1,10 @@
 -- What holds of each call in a sound state holds along every list of calls.
-use mathlib.Core.Path.{_≡_, refl, sym, _∙_, ap, ap₂, subst}
+use mathlib.Core.Path.{_≡_, refl, sym, _∙_, ap, ap₂}
 use mathlib.Core.List.{List, [], _∷_}
 use Prim.Native.Nat.{ℕ, _+_}
 use lib.IntN.{ℤ, pos, negℤ, _+ℤ_, _-ℤ_, +ℤ-assoc, +ℤ-comm, negℤ-+ℤ, pos-+ℤ-pos}
 use Rattle.market.specs.Answers.{answerNumber}
 use Rattle.market.specs.declared.book.Book.{Book}
-use Rattle.market.specs.declared.book.Entry.{Entry}
 use Rattle.register.specs.Refusals.{countedEntries}
 use Rattle.keeping.proofs.Lifting.{nothing-moved}
 use Rattle.keeping.specs.Money.{worth}

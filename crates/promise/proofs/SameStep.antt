@@ -1,25 +1,23 @@
 -- In a sound state the engine's step over the words of the register is the rules' over the entries that they hold.
 use mathlib.Core.Path.{_≡_, refl, sym, _∙_, ap, ap₂}
 use mathlib.Core.Bool.{Bool, cond, not}
-use mathlib.Core.List.{List, [], _∷_, _++_, map}
+use mathlib.Core.List.{List, _++_, map}
 use Prim.Native.Nat.{ℕ, zero, suc, _≤_}
 use lib.Dec.{leb, eqb}
-use lib.ListN.{length, drop, take}
+use lib.ListN.{length, drop}
 use borrow.Author.Tests.{le-ltb}
 use Rattle.market.specs.Answers.{Row, firstOf, decided, decidedList, answered, drawn}
-use Rattle.market.specs.Books.{bidderOf, withBidder, withAccount, withEntries, withAuction}
+use Rattle.market.specs.Books.{bidderOf, withBidder, withAccount, withEntries}
 use Rattle.market.specs.Limits.{registerWords, bidderLimit, bidAnswerWords, pathAnswerWords, scratchWords, zones}
-use Rattle.market.specs.declared.answer.Answer.the-variants.{Bids}
 use Rattle.market.specs.declared.answer.Outcome.{Outcome}
 use Rattle.market.specs.declared.book.Book.{Book}
 use Rattle.market.specs.declared.book.Entry.{Entry}
 use Rattle.market.specs.declared.book.Kind.{Kind}
 use Rattle.market.specs.declared.book.Period.{Period}
-use Rattle.market.specs.declared.book.Stage.the-variants as stages
 use Rattle.market.specs.declared.units.Cents.{Cents}
 use Rattle.market.specs.declared.units.Day.{Day}
 use Rattle.register.proofs.EntryLaws.{changed-length}
-use Rattle.register.proofs.WordLaws.{entries-read, entries-length}
+use Rattle.register.proofs.WordLaws.{entries-read}
 use Rattle.register.specs.Entries.{issuedTo, without}
 use Rattle.register.specs.Refusals.{registerRefusals, countedEntries}
 use Rattle.register.specs.Words.{entriesOf, written}
@@ -33,13 +31,10 @@ use Rattle.billing.specs.Default.{defaultRefusals, drawOf, bookForfeited, defau
 use Rattle.retire.specs.Retire.{retireRefusals, retire, retireWords}
 use Rattle.payout.specs.Payout as payouts
 use Rattle.disbursement.specs.Disbursement as pools
-use Rattle.disbursement.specs.declared.flow.Flow.{Flow}
 use Rattle.disbursement.specs.declared.flow.Flow.the-variants.{Out, In}
 use Rattle.opening.specs.Open as openings
-use Rattle.bids.specs.Bids.{Bid, bidsOf}
+use Rattle.bids.specs.Bids.{bidsOf}
 use Rattle.bids.specs.Faults.{listRefusals}
-use Rattle.clearing.specs.Clearing.{bidRows, laid}
-use Rattle.closing.specs.Closing.{pathRows}
 use Rattle.round.specs.Round as rounds
 use Rattle.keeping.specs.State.{State}
 use Rattle.keeping_round.proofs.KeepRound.{more-read}

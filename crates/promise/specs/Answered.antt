@@ -3,33 +3,17 @@
 use mathlib.Core.Path.{_≡_}
 use mathlib.Core.Bool.{cond}
 use mathlib.Core.List.{List, [], _∷_}
-use Prim.Native.Nat.{ℕ, _+_, _*_, _≤_, _<_}
+use Prim.Native.Nat.{ℕ, _+_, _≤_, _<_}
 use lib.Dec.{eqb}
 use lib.ListN.{length, getD}
 use Rattle.market.specs.Answers.{answerNumber}
-use Rattle.market.specs.Limits.{bidAnswerSize, pathAnswerSize}
 use Rattle.bids.specs.Bids.{Bid, bidsOf}
 use Rattle.awards.specs.Awards.{Lot, lotsOf}
 use Rattle.awards.specs.Rivals.{Rival, Legal, rivalValue, filledValue, totalValue}
 use Rattle.awarding.specs.Tables.{below}
+use Rattle.round.specs.Answers.{markIn, wonIn, chargeIn, offeredIn}
 use Rattle.engine.specs.declared.calls.Call.the-variants.{Round}
 use Rattle.promise.specs.Runs.{Made}
-
--- ---- The lists, word by word
-
--- of a bid by its number: admitted or over, MW, charge
-abbrev pub markIn : List ℕ → ℕ → ℕ
-markIn answers bid = getD answers (bid * bidAnswerSize) 0
-
-abbrev pub wonIn : List ℕ → ℕ → ℕ
-wonIn answers bid = getD answers (bid * bidAnswerSize + 2) 0
-
-abbrev pub chargeIn : List ℕ → ℕ → ℕ
-chargeIn answers bid = getD answers (bid * bidAnswerSize + 3) 0
-
--- of a path: the MW that the round offers
-abbrev pub offeredIn : List ℕ → ℕ → ℕ
-offeredIn results path = getD results (path * pathAnswerSize) 0
 
 -- ---- A round that was made
 

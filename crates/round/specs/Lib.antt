@@ -1,3 +1,4 @@
+pub mod Answers
 pub mod Padded
 pub mod Ready
 pub mod Round

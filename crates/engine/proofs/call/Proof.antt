@@ -5,19 +5,6 @@ use Rattle.round.specs.Round.{roundTable}
 use Rattle.engine.proofs.Scratch.{scratch-holds}
 use Rattle.engine.proofs.call.Statement.{statement}
 use Rattle.engine.proofs.call.Tie as tie
-use Rattle.engine.proofs.call.Reads as reads
-use Rattle.engine.proofs.call.Lts as lts
-use Rattle.billing.proofs.default.Reads as default-reads
-use Rattle.billing.proofs.pay.Reads as pay-reads
-use Rattle.disbursement.proofs.disburse.Reads as disburse-reads
-use Rattle.disbursement.proofs.recover.Reads as recover-reads
-use Rattle.funding.proofs.deposit.Reads as deposit-reads
-use Rattle.funding.proofs.withdraw.Reads as withdraw-reads
-use Rattle.opening.proofs.open.Reads as open-reads
-use Rattle.payout.proofs.payout.Reads as payout-reads
-use Rattle.rent.proofs.rent.Reads as rent-reads
-use Rattle.retire.proofs.retire.Reads as retire-reads
-use Rattle.round.proofs.round.Reads as round-reads
 
 enum-known-what : tie.Need-enum-known-what
 enum-known-what c = search needs

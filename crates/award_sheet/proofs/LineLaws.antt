@@ -1,0 +1,121 @@
+-- Laws about lines, piece by piece.
+use mathlib.Core.Path.{_≡_, sym, _∙_, ap}
+use mathlib.Core.Bool.{Bool, cond}
+use mathlib.Core.List.{List, [], _∷_, _++_, append-assoc, append-nil}
+use Prim.Native.Nat.{ℕ, zero, suc, _+_, _-_, _≤_, _<_}
+use native.Mathlib.Numerals.{add-one}
+use native.Mathlib.Omega.{arith}
+use lib.ListN.{length, getD, drop, length-drop, drop-of-length-le}
+use lib.Seq.{drop-cons}
+use borrow.Author.Tests.{lt-ltb, le-ltb, eq-eqb, ne-eqb}
+use Rattle.market.specs.Books.{bidderOf}
+use Rattle.market.specs.Limits.{admitted}
+use Rattle.market.specs.declared.book.Book.{Book}
+use Rattle.text.specs.Decimal.{decimal}
+use Rattle.lines.specs.Fields.{space, newline, numbersLine}
+use Rattle.lines.proofs.FieldLaws.{fieldText, numbersText, text-cons, line-text}
+use Rattle.bids.specs.Bids.{Bid}
+use Rattle.round.specs.Answers.{wonIn}
+use Rattle.award_sheet.specs.AwardSheet.{markWord, priceField, pathLine, pathLines, awardLine, awardPart, bidderLine, bidderLines, RoundMade, bidsPart, pathsPart, awardsPart, roundText}
+use Rattle.award_sheet.specs.Phrases as words
+
+module _ (last : ℕ) (ns : List ℕ) (i : ℕ) where
+  from-here : i < length ns → drop i ns ≡ getD ns i 0 ∷ drop (i + 1) ns
+  from-here h = drop-cons ns i 0 h ∙ ap (λ (k : ℕ). getD ns i 0 ∷ drop k ns) (sym (add-one i))
+
+  -- a number that is not the last one, and those behind it
+  pub more-numbers : i + 1 < length ns → numbersText last (drop i ns) ≡ fieldText (getD ns i 0) space ++ numbersText last (drop (i + 1) ns)
+  more-numbers h =
+      ap (numbersText last) (from-here (omega arith))
+      ∙ text-cons last (getD ns i 0) (drop (i + 1) ns) (omega (arith, length-drop (i + 1) ns))
+
+  -- the last one
+  pub last-number : i < length ns → length ns ≤ i + 1 → numbersText last (drop i ns) ≡ fieldText (getD ns i 0) last ++ []
+  last-number h end =
+      ap (numbersText last) (from-here h ∙ ap (λ (l : List ℕ). getD ns i 0 ∷ l) (drop-of-length-le ns end))
+      ∙ sym (append-nil (fieldText (getD ns i 0) last))
+
+-- a field with the byte behind it, and what follows
+pub field-piece : (field : List ℕ) (stop : ℕ) (more : List ℕ) → field ++ (stop ∷ more) ≡ (field ++ (stop ∷ [])) ++ more
+field-piece field stop more = sym (append-assoc field (stop ∷ []) more)
+
+-- three numbers at the front of a line, and what follows
+pub three-pieces : (a b c : ℕ) (more : List ℕ) → decimal a ++ (space ∷ (decimal b ++ (space ∷ (decimal c ++ (space ∷ more))))) ≡ numbersText space (a ∷ b ∷ c ∷ []) ++ more
+three-pieces a b c more = simp append-assoc
+
+-- a line of numbers alone
+pub line-alone : (n : ℕ) (ns : List ℕ) → numbersLine (n ∷ ns) ≡ numbersText newline (n ∷ ns) ++ []
+line-alone n ns = sym (append-nil (numbersText newline (n ∷ ns)) ∙ line-text n ns)
+
+-- ---- Fields by cases
+
+pub mark-admitted : (mark : ℕ) → mark ≡ admitted → markWord mark ++ (space ∷ []) ≡ words.admittedWord ++ (space ∷ [])
+mark-admitted mark is =
+    ap (λ (t : Bool). cond t words.admittedWord words.overWord ++ (space ∷ [])) (eq-eqb mark admitted is)
+
+pub mark-over : (mark : ℕ) → (mark ≡ admitted → ⊥) → markWord mark ++ (space ∷ []) ≡ words.overWord ++ (space ∷ [])
+mark-over mark other =
+    ap (λ (t : Bool). cond t words.admittedWord words.overWord ++ (space ∷ [])) (ne-eqb mark admitted other)
+
+pub price-none : (price : ℕ) → price ≡ 0 → priceField price ++ (newline ∷ []) ≡ words.noPrice ++ (newline ∷ [])
+price-none price is =
+    ap (λ (t : Bool). cond t words.noPrice (decimal price) ++ (newline ∷ [])) (eq-eqb price 0 is)
+
+pub price-some : (price : ℕ) → (price ≡ 0 → ⊥) → priceField price ++ (newline ∷ []) ≡ fieldText price newline ++ []
+price-some price other =
+    ap (λ (t : Bool). cond t words.noPrice (decimal price) ++ (newline ∷ [])) (ne-eqb price 0 other)
+    ∙ sym (append-nil (fieldText price newline))
+
+pub award-won : (answers : List ℕ) (bid : ℕ) (b : Bid) → 0 < wonIn answers bid → awardPart answers bid b ≡ awardLine answers bid b ++ []
+award-won answers bid b won =
+    ap (λ (t : Bool). cond t (awardLine answers bid b) []) (lt-ltb 0 (wonIn answers bid) won)
+    ∙ sym (append-nil (awardLine answers bid b))
+
+pub award-lost : (answers : List ℕ) (bid : ℕ) (b : Bid) → wonIn answers bid ≤ 0 → awardPart answers bid b ≡ []
+award-lost answers bid b lost =
+    ap (λ (t : Bool). cond t (awardLine answers bid b) []) (le-ltb 0 (wonIn answers bid) lost)
+
+-- ---- Lines one after another
+
+-- the lines of so many paths from one on
+abbrev pub pathsFrom : List ℕ → ℕ → ℕ → List ℕ
+pathsFrom results path zero = []
+pathsFrom results path (suc n) = pathLine results path ++ pathsFrom results (path + 1) n
+
+paths-split : (results : List ℕ) (path n : ℕ) → pathLines results (path + n) ≡ pathLines results path ++ pathsFrom results path n
+paths-split results path zero =
+    let same : path + 0 ≡ path = omega arith in ap (pathLines results) same ∙ sym (append-nil (pathLines results path))
+paths-split results path (suc n) =
+    let on : path + suc n ≡ path + 1 + n = omega arith in
+    ap (pathLines results) on
+    ∙ paths-split results (path + 1) n
+    ∙ ap (λ (k : ℕ). pathLines results k ++ pathsFrom results (path + 1) n) (add-one path)
+    ∙ append-assoc (pathLines results path) (pathLine results path) (pathsFrom results (path + 1) n)
+
+pub paths-all : (results : List ℕ) (paths : ℕ) → pathLines results paths ≡ pathsFrom results 0 (paths - 0)
+paths-all results paths =
+    let same : paths ≡ 0 + paths = omega arith in
+    let all : paths ≡ paths - 0 = omega arith in
+    ap (pathLines results) same ∙ paths-split results 0 paths ∙ ap (pathsFrom results 0) all
+
+pub paths-next : (results : List ℕ) (path paths : ℕ) → path < paths → pathsFrom results path (paths - path) ≡ pathLine results path ++ pathsFrom results (path + 1) (paths - (path + 1))
+paths-next results path paths below =
+    let more : paths - path ≡ suc (paths - (path + 1)) = omega arith in ap (pathsFrom results path) more
+
+pub paths-none : (results : List ℕ) (path paths : ℕ) → paths ≤ path → pathsFrom results path (paths - path) ≡ []
+paths-none results path paths end =
+    let none : paths - path ≡ 0 = omega arith in ap (pathsFrom results path) none
+
+-- the lines of the bidders listed
+module _ (b : Book) (listed : List ℕ) (i : ℕ) where
+  pub bidders-next : i < length listed → bidderLines b (drop i listed) ≡ bidderLine (getD listed i 0) (bidderOf b (getD listed i 0)) ++ bidderLines b (drop (i + 1) listed)
+  bidders-next h = ap (bidderLines b) (from-here 0 listed i h)
+
+  pub bidders-none : length listed ≤ i → bidderLines b (drop i listed) ≡ []
+  bidders-none end = ap (bidderLines b) (drop-of-length-le listed end)
+
+-- ---- A round
+
+pub round-pieces : (paths : ℕ) (r : RoundMade) → roundText paths r ≡ bidsPart (r .answers) (r .bids) ++ (pathsPart (r .results) paths ++ awardsPart (r .answers) (r .bids))
+unfolding roundText
+round-pieces paths r = append-assoc (bidsPart (r .answers) (r .bids)) (pathsPart (r .results) paths) (awardsPart (r .answers) (r .bids))

@@ -1,0 +1,31 @@
+// The first two lines of an award sheet.
+use crate::fields;
+use market::engine::Engine;
+ghost use mathlib.Core.Path.{_≡_};
+ghost use mathlib.Core.List.{_++_};
+ghost use Prim.Native.Nat.{_+_, _≤_};
+ghost use lib.ListN.{length};
+ghost use Rattle.text.specs.Put.{putAt};
+ghost use Rattle.award_sheet.specs.AwardSheet.{countLine, titleLine};
+ghost use Rattle.award_sheet.specs.Phrases.{roundsWord};
+
+// The title, with the engine's own release and rule edition.
+fn put_title_line(out: &mut [u8], at: usize) -> usize
+    requires { ⌜ at + length titleLine ≤ length (now out) ⌝ }
+    ensures place { λ r. ⌜ r ≡ at + length titleLine ⌝ }
+    ensures bytes { λ _. ⌜ now (out .exit) ≡ putAt (now (out .entry)) at titleLine ⌝ }
+{
+    let named = text::put_bytes(out, at, b"TRA-AWARD release ");
+    let released = fields::put_field(out, named, Engine::RELEASE as u64, fields::SPACE);
+    fields::put_count(out, released, b"rules", Engine::RULES as u64)
+}
+
+// The title, and the number of rounds.
+pub fn put_title(out: &mut [u8], at: usize, rounds: usize) -> usize
+    requires { ⌜ at + length (titleLine ++ countLine roundsWord rounds) ≤ length (now out) ⌝ }
+    ensures place { λ r. ⌜ r ≡ at + length (titleLine ++ countLine roundsWord rounds) ⌝ }
+    ensures bytes { λ _. ⌜ now (out .exit) ≡ putAt (now (out .entry)) at (titleLine ++ countLine roundsWord rounds) ⌝ }
+{
+    let next = put_title_line(out, at);
+    fields::put_count(out, next, b"rounds", rounds as u64)
+}

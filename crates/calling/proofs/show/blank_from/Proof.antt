@@ -1,0 +1,45 @@
+use borrow.Author.Needs.{needs}
+use Prim.Native.Nat.{_-_}
+use Rattle.calling.proofs.show.blank_from.Statement.{statement}
+use Rattle.calling.proofs.show.blank_from.Tie as tie
+
+abbrev Inv-loop : tie.InvT-loop
+Inv-loop words from at₀ at-end at = Unit {0}
+
+abbrev μ-loop : tie.MeasureT-loop
+μ-loop words from at₀ at-end at = at-end - at
+
+loop-holds : tie.Need-loop-holds Inv-loop μ-loop
+loop-holds c = search needs
+
+word-requires : tie.Need-word-requires Inv-loop μ-loop
+word-requires c κs = search needs
+
+returns : tie.Need-returns Inv-loop μ-loop
+returns c = search needs
+
+add-at : tie.Need-add-at Inv-loop μ-loop
+add-at c = search needs
+
+loop-less : tie.Need-loop-less Inv-loop μ-loop
+loop-less c = search needs
+
+loop-again : tie.Need-loop-again Inv-loop μ-loop
+loop-again c = search needs
+
+returns-2 : tie.Need-returns-2 Inv-loop μ-loop
+returns-2 c = search needs
+
+pub blank-from-spec : {M : Type 1} → statement M
+blank-from-spec =
+    tie.close
+    (tie.spec
+    Inv-loop
+    μ-loop
+    loop-holds
+    word-requires
+    returns
+    add-at
+    loop-less
+    loop-again
+    returns-2)

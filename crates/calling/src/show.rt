@@ -1,0 +1,200 @@
+// What the lines are made of.
+use funding::Funds;
+use market::answer::Answer;
+use market::answer::Outcome;
+use market::book::Book;
+use market::book::Kind;
+use market::book::Period;
+use market::book::Stage;
+use market::engine::Engine;
+use market::units::Day;
+
+// What every lent word is before a call writes to it.
+pub const BLANK: u32 = 7;
+
+pub const BLANK_WIDE: u64 = 7;
+
+pub fn heading(name: &[u8]) {
+    report::text(b"- ");
+    report::text(name);
+    report::line();
+}
+
+fn funds(given: Funds) {
+    match given {
+        Funds::Cash => report::text(b" cash"),
+        Funds::Letter => report::text(b" letter"),
+    }
+}
+
+// A deposit or a withdrawal.
+pub fn account_call(name: &[u8], bidder: u32, given: Funds, amount: u64) {
+    report::text(name);
+    report::number(bidder as u64);
+    funds(given);
+    report::number(amount);
+}
+
+fn kind_of(kind: Kind) {
+    match kind {
+        Kind::Short => report::text(b" S"),
+        Kind::Long => report::text(b" L"),
+    }
+}
+
+fn day(given: Day) {
+    report::number(given.0 as u64);
+}
+
+fn days(period: Period) {
+    let first = period.first;
+    let last = period.last;
+    day(first);
+    day(last);
+}
+
+pub fn open_call(kind: Kind, first: u32, last: u32) {
+    report::text(b"open");
+    kind_of(kind);
+    report::number(first as u64);
+    report::number(last as u64);
+}
+
+// The end of a call's line: the refusal's number, 0 where the call is answered, and a draw or a number of bids.
+pub fn answered(outcome: Outcome) -> Outcome {
+    report::text(b":");
+    report::answer(outcome);
+    let said = outcome.answer;
+    match said {
+        Answer::Refused(_number) => {}
+        Answer::Done => {}
+        Answer::Drawn(draw) => {
+            report::text(b" draw");
+            report::amount(draw);
+        }
+        Answer::Bids(bids) => {
+            report::text(b" bids");
+            report::number(bids as u64);
+        }
+    }
+    report::line();
+    outcome
+}
+
+fn stage(given: Stage) {
+    match given {
+        Stage::Idle => report::text(b" idle"),
+        Stage::Open {
+            kind,
+            round,
+            period,
+        } => {
+            report::text(b" open");
+            kind_of(kind);
+            report::number(round as u64);
+            days(period);
+        }
+    }
+}
+
+// The account, the number of entries, and the stage.
+pub fn book(given: Book) {
+    let account = given.account;
+    let at = given.stage;
+    report::text(b"account");
+    report::signed(account);
+    report::text(b" entries");
+    report::number(given.entries as u64);
+    stage(at);
+    report::line();
+}
+
+// A bidder's cash, applied, letter, hold, owed and step.
+pub fn bidder(given: Book, number: usize) {
+    report::text(b"bidder");
+    report::number(number as u64);
+    if number < Engine::BIDDERS {
+        report::bidder(given.bidders[number]);
+    }
+    report::line();
+}
+
+// A path's offer and what the auction has sold of it.
+pub fn path(given: Book, number: usize) {
+    report::text(b"path");
+    report::number(number as u64);
+    if number < Engine::PATHS {
+        let shown = given.paths[number];
+        let offer = shown.offer;
+        let sold = shown.sold;
+        report::number(offer.0 as u64);
+        report::number(sold.0 as u64);
+    }
+    report::line();
+}
+
+fn word(words: &[u32], at: usize) -> u32 {
+    if at < words.len() { words[at] } else { BLANK }
+}
+
+fn wide_word(words: &[u64], at: usize) -> u64 {
+    if at < words.len() {
+        words[at]
+    } else {
+        BLANK_WIDE
+    }
+}
+
+fn words_to(words: &[u32], end: usize) {
+    for at in 0..end {
+        report::number(word(words, at) as u64);
+    }
+}
+
+fn wide_words_to(words: &[u64], end: usize) {
+    for at in 0..end {
+        report::number(wide_word(words, at));
+    }
+}
+
+// Whether every word from a place on is blank.
+fn blank_from(words: &[u32], from: usize) -> bool {
+    for at in from..words.len() {
+        if word(words, at) != BLANK {
+            return false;
+        }
+    }
+    true
+}
+
+fn wide_blank_from(words: &[u64], from: usize) -> bool {
+    for at in from..words.len() {
+        if wide_word(words, at) != BLANK_WIDE {
+            return false;
+        }
+    }
+    true
+}
+
+fn past(blank: bool) {
+    if blank {
+        report::text(b" past blank");
+    } else {
+        report::text(b" past written");
+    }
+    report::line();
+}
+
+// The first words of the register, and whether those past them are blank.
+pub fn register(words: &[u32], end: usize) {
+    report::text(b"register");
+    words_to(words, end);
+    past(blank_from(words, end));
+}
+
+// The first words of an answered list, and whether those past them are blank.
+pub fn list(name: &[u8], words: &[u64], end: usize) {
+    report::text(name);
+    wide_words_to(words, end);
+    past(wide_blank_from(words, end));
+}

@@ -1,0 +1,1 @@
+// From the bytes of a sheet to the bytes of its output.

@@ -1,0 +1,65 @@
+use native.Mathlib.Omega.{arith}
+use Prim.Native.Nat.{_+_}
+use mathlib.Core.Path.{_∙_}
+use lib.ListN.{drop}
+use Rattle.lines.proofs.ReadLaws.{number-small, both-most}
+use Rattle.lines.proofs.LineLaws.{bid-here}
+use borrow.Author.Needs.{needs}
+use Rattle.lines.proofs.bid_used.Statement.{statement}
+use Rattle.lines.proofs.bid_used.Tie as tie
+
+numbers-used-requires : tie.Need-numbers-used-requires
+numbers-used-requires c κs = search needs
+
+add-number-at : tie.Need-add-number-at
+add-number-at c = search needs
+
+number-at-requires : tie.Need-number-at-requires
+number-at-requires c κs = search needs
+
+add-numbers-used : tie.Need-add-numbers-used
+add-numbers-used c = search needs
+
+mul-numbers-used : tie.Need-mul-numbers-used
+mul-numbers-used c =
+    let a = c .before .before .before .before .args in
+    let head = c .before .before .numbers-used in
+    let pairs = c .before .number-at in
+    omega (arith, number-small (drop (a .at + head .result) (a .bytes .now)) (pairs .result) (pairs .ensures))
+
+add-numbers-used-2 : tie.Need-add-numbers-used-2
+add-numbers-used-2 c =
+    let a = c .before .before .before .before .args in
+    let head = c .before .before .numbers-used in
+    let pairs = c .before .number-at in
+    omega (arith, number-small (drop (a .at + head .result) (a .bytes .now)) (pairs .result) (pairs .ensures))
+
+numbers-used-requires-2 : tie.Need-numbers-used-requires-2
+numbers-used-requires-2 c κs = search needs
+
+both-requires : tie.Need-both-requires
+both-requires c κs = search needs
+
+returns : tie.Need-returns
+returns c =
+    let a = c .before .before .before .before .before .before .args in
+    let head = c .before .before .before .before .numbers-used in
+    let pairs = c .before .before .before .number-at in
+    let rest = c .before .numbers-used2 in (
+      c .both .ensures ∙ bid-here (a .bytes .now) (a .at) (head .result) (head .ensures .0) (pairs .result) (pairs .ensures) (rest .result) (rest .ensures .0),
+      omega (arith, c .both .ensures, rest .ensures .1, both-most (head .result) (rest .result)),
+    )
+
+pub bid-used-spec : {M : Type 1} → statement M
+bid-used-spec =
+    tie.close
+    (tie.spec
+    numbers-used-requires
+    add-number-at
+    number-at-requires
+    add-numbers-used
+    mul-numbers-used
+    add-numbers-used-2
+    numbers-used-requires-2
+    both-requires
+    returns)

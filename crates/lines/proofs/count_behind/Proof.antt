@@ -1,0 +1,61 @@
+use native.Mathlib.Omega.{arith}
+use mathlib.Core.Path.{sym, _∙_}
+use lib.ListN.{length}
+use borrow.Author.Tests.{not-true, not-false}
+use Rattle.lines.proofs.ReadLaws.{both-most}
+use Rattle.lines.proofs.LineLaws.{no-word, word-short, count-short, count-value, count-here}
+use borrow.Author.Needs.{needs}
+use Rattle.lines.proofs.count_behind.Statement.{statement}
+use Rattle.lines.proofs.count_behind.Tie as tie
+
+sub-if1 : tie.Need-sub-if1
+sub-if1 c = search needs
+
+returns : tie.Need-returns
+returns c =
+    let a = c .before .before .before .args in
+    (word-short (a .bytes .now) (a .at) (a .word .now) (c .if1 .taken), (count-short (a .bytes .now) (a .at) (a .word .now) (c .if1 .taken), search needs))
+
+add-field-at : tie.Need-add-field-at
+add-field-at c = search needs
+
+field-at-requires : tie.Need-field-at-requires
+field-at-requires c κs = search needs
+
+starts-with-requires : tie.Need-starts-with-requires
+starts-with-requires c κs = search needs
+
+returns-2 : tie.Need-returns-2
+returns-2 c =
+    let a = c .before .before .before .before .before .before .args in
+    let word = c .before .starts-with in
+    let count = c .before .before .field-at in
+    (no-word (a .bytes .now) (a .at) (a .word .now) (sym (word .ensures) ∙ not-true (word .result) (c .if2 .taken)), (count-value (a .bytes .now) (a .at) (a .word .now) (count .result) (count .ensures .0), search needs))
+
+both-requires : tie.Need-both-requires
+both-requires c κs = search needs
+
+returns-3 : tie.Need-returns-3
+returns-3 c =
+    let a = c .before .before .before .before .before .before .before .args in
+    let word = c .before .before .starts-with in
+    let count = c .before .before .before .field-at in (
+      c .both .ensures ∙ count-here (a .bytes .now) (a .at) (a .word .now) (count .result) (count .ensures .0) (sym (word .ensures) ∙ not-false (word .result) (c .before .if2 .left)),
+      (
+        count-value (a .bytes .now) (a .at) (a .word .now) (count .result) (count .ensures .0),
+        omega (arith, c .both .ensures, count .ensures .1, both-most (length (a .word .now)) (count .result .used)),
+      ),
+    )
+
+pub count-behind-spec : {M : Type 1} → statement M
+count-behind-spec =
+    tie.close
+    (tie.spec
+    sub-if1
+    returns
+    add-field-at
+    field-at-requires
+    starts-with-requires
+    returns-2
+    both-requires
+    returns-3)

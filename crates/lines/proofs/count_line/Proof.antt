@@ -1,0 +1,78 @@
+use mathlib.Core.Path.{sym, _∙_, ap}
+use lib.ListN.{drop}
+use Rattle.lines.specs.Lines.{countUsed, countSaid}
+use Rattle.lines.specs.declared.part.Part.{Part}
+use borrow.Author.Needs.{needs}
+use Rattle.lines.proofs.count_line.Statement.{statement}
+use Rattle.lines.proofs.count_line.Tie as tie
+
+enum-told : tie.Need-enum-told
+enum-told c = search needs
+
+slice-aggregate-count-behind : tie.Need-slice-aggregate-count-behind
+slice-aggregate-count-behind c = search needs
+
+count-behind-requires : tie.Need-count-behind-requires
+count-behind-requires c κs = search needs
+
+enum-told-2 : tie.Need-enum-told-2
+enum-told-2 c = search needs
+
+slice-aggregate-count-behind-2 : tie.Need-slice-aggregate-count-behind-2
+slice-aggregate-count-behind-2 c = search needs
+
+count-behind-requires-2 : tie.Need-count-behind-requires-2
+count-behind-requires-2 c κs = search needs
+
+enum-told-3 : tie.Need-enum-told-3
+enum-told-3 c = search needs
+
+slice-aggregate-count-behind-3 : tie.Need-slice-aggregate-count-behind-3
+slice-aggregate-count-behind-3 c = search needs
+
+count-behind-requires-3 : tie.Need-count-behind-requires-3
+count-behind-requires-3 c κs = search needs
+
+returns : tie.Need-returns
+returns c =
+    let a = c .before .before .before .before .before .args in
+    let count = c .count-behind in
+    let told = c .before .before .enum-told .given .1 in (
+      count .ensures .0 ∙ ap (λ (p : Part). countUsed p (drop (a .at) (a .bytes .now))) (sym told),
+      (count .ensures .1 .0 ∙ ap (λ (p : Part). countSaid p (drop (a .at) (a .bytes .now))) (sym told), count .ensures .1 .1),
+    )
+
+returns-2 : tie.Need-returns-2
+returns-2 c =
+    let a = c .before .before .before .before .before .args in
+    let count = c .count-behind2 in
+    let told = c .before .before .enum-told2 .given .1 in (
+      count .ensures .0 ∙ ap (λ (p : Part). countUsed p (drop (a .at) (a .bytes .now))) (sym told),
+      (count .ensures .1 .0 ∙ ap (λ (p : Part). countSaid p (drop (a .at) (a .bytes .now))) (sym told), count .ensures .1 .1),
+    )
+
+returns-3 : tie.Need-returns-3
+returns-3 c =
+    let a = c .before .before .before .before .before .args in
+    let count = c .count-behind3 in
+    let told = c .before .before .enum-told3 .given .1 in (
+      count .ensures .0 ∙ ap (λ (p : Part). countUsed p (drop (a .at) (a .bytes .now))) (sym told),
+      (count .ensures .1 .0 ∙ ap (λ (p : Part). countSaid p (drop (a .at) (a .bytes .now))) (sym told), count .ensures .1 .1),
+    )
+
+pub count-line-spec : {M : Type 1} → statement M
+count-line-spec =
+    tie.close
+    (tie.spec
+    enum-told
+    slice-aggregate-count-behind
+    count-behind-requires
+    enum-told-2
+    slice-aggregate-count-behind-2
+    count-behind-requires-2
+    enum-told-3
+    slice-aggregate-count-behind-3
+    count-behind-requires-3
+    returns
+    returns-2
+    returns-3)

@@ -1,0 +1,37 @@
+use native.Mathlib.Omega.{arith}
+use mathlib.Core.Path.{_∙_}
+use Rattle.lines.proofs.ReadLaws.{both-most}
+use Rattle.lines.proofs.LineLaws.{path-other, path-here}
+use borrow.Author.Needs.{needs}
+use Rattle.lines.proofs.path_used.Statement.{statement}
+use Rattle.lines.proofs.path_used.Tie as tie
+
+field-at-requires : tie.Need-field-at-requires
+field-at-requires c κs = search needs
+
+returns : tie.Need-returns
+returns c =
+    let a = c .before .before .before .before .args in
+    let path = c .before .before .field-at in
+    (path-other (a .bytes .now) (a .at) (a .number) (path .result) (path .ensures .0) (λ e. omega (arith, c .if1 .taken)), search needs)
+
+add-route-used : tie.Need-add-route-used
+add-route-used c = search needs
+
+route-used-requires : tie.Need-route-used-requires
+route-used-requires c κs = search needs
+
+both-requires : tie.Need-both-requires
+both-requires c κs = search needs
+
+returns-2 : tie.Need-returns-2
+returns-2 c =
+    let a = c .before .before .before .before .before .before .before .args in
+    let path = c .before .before .before .before .before .field-at in
+    let route = c .before .route-used in
+    (c .both .ensures ∙ path-here (a .bytes .now) (a .at) (a .number) (path .result) (path .ensures .0) (omega arith) (route .result) (route .ensures .0), omega (arith, c .both .ensures, route .ensures .1, both-most (path .result .used) (route .result)))
+
+pub path-used-spec : {M : Type 1} → statement M
+path-used-spec =
+    tie.close
+    (tie.spec field-at-requires returns add-route-used route-used-requires both-requires returns-2)

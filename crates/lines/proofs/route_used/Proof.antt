@@ -1,0 +1,47 @@
+use native.Mathlib.Omega.{arith}
+use mathlib.Core.Path.{sym, _∙_}
+use borrow.Author.Tests.{not-true, not-false}
+use Rattle.lines.proofs.ReadLaws.{both-most}
+use Rattle.lines.proofs.LineLaws.{letter-fits, route-missing, route-here}
+use borrow.Author.Needs.{needs}
+use Rattle.lines.proofs.route_used.Statement.{statement}
+use Rattle.lines.proofs.route_used.Tie as tie
+
+letter-at-requires : tie.Need-letter-at-requires
+letter-at-requires c κs = search needs
+
+returns : tie.Need-returns
+returns c =
+    let a = c .before .before .before .args in
+    let letter = c .before .letter-at in
+    (route-missing (a .bytes .now) (a .at) (sym (letter .ensures) ∙ not-true (letter .result) (c .if1 .taken)), search needs)
+
+add-numbers-used : tie.Need-add-numbers-used
+add-numbers-used c = search needs
+
+numbers-used-requires : tie.Need-numbers-used-requires
+numbers-used-requires c κs =
+    let a = c .before .before .before .args in
+    let letter = c .before .letter-at in
+    (letter-fits (a .bytes .now) (a .at) 88 77 (sym (letter .ensures) ∙ not-false (letter .result) (c .if1 .left)), search needs)
+
+both-requires : tie.Need-both-requires
+both-requires c κs = search needs
+
+returns-2 : tie.Need-returns-2
+returns-2 c =
+    let a = c .before .before .before .before .before .args in
+    let letter = c .before .before .before .letter-at in
+    let rest = c .before .numbers-used in
+    (c .both .ensures ∙ route-here (a .bytes .now) (a .at) (sym (letter .ensures) ∙ not-false (letter .result) (c .before .before .if1 .left)) (rest .result) (rest .ensures .0), omega (arith, c .both .ensures, rest .ensures .1, both-most 2 (rest .result)))
+
+pub route-used-spec : {M : Type 1} → statement M
+route-used-spec =
+    tie.close
+    (tie.spec
+    letter-at-requires
+    returns
+    add-numbers-used
+    numbers-used-requires
+    both-requires
+    returns-2)

@@ -1,0 +1,3 @@
+-- The lines of a sheet, one by one.
+pub mod Fields
+pub mod Lines

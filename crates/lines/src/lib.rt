@@ -1,0 +1,202 @@
+// The lines of a sheet, each read at a place of its text: the bytes that it takes, its byte 10 included, and 0 where it is faulty.
+pub mod fields;
+pub mod part;
+
+use fields::Field;
+use market::engine::Engine;
+use part::Part;
+use part::Step;
+ghost use mathlib.Core.Path.{_≡_};
+ghost use mathlib.Core.Bool.{_&&_, _||_};
+ghost use Prim.Native.Nat.{_+_, _≤_, _<_, _^_};
+ghost use lib.Dec.{eqb};
+ghost use lib.ListN.{length, getD, drop};
+ghost use Rattle.lines.specs.Fields.{space, newline, wordTop, startsWith, fieldAt, both as bothUsed};
+ghost use Rattle.lines.specs.Lines.{behind, titleUsed, countUsed, countSaid, bidderUsed, routeUsed, pathUsed, bidUsed, lineAt};
+
+// The bytes of the kinds and of the directions.
+pub const SHORT: u8 = 83;
+
+pub const LONG: u8 = 76;
+
+const EXPORT: u8 = 88;
+
+const IMPORT: u8 = 77;
+
+// How many bidders there are.
+const BIDDERS: u64 = Engine::BIDDERS as u64;
+
+// The bytes of two parts, the second behind the first; 0 where one does not stand.
+fn both(first: usize, second: usize) -> usize
+    requires { ⌜ first + second < 2 ^ 64 ⌝ }
+    ensures { λ r. ⌜ r ≡ bothUsed first second ⌝ }
+{
+    if first == 0 {
+        return 0;
+    }
+    if second == 0 {
+        return 0;
+    }
+    first + second
+}
+
+// Whether one of two letters stands at a place, and a space behind it.
+fn letter_at(bytes: &[u8], at: usize, one: u8, other: u8) -> bool
+    requires { ⌜ at ≤ length (now bytes) ⌝ }
+    ensures { λ r. ⌜ r ≡ ((eqb (getD (now (bytes .entry)) at 0) one || eqb (getD (now (bytes .entry)) at 0) other)
+        && eqb (getD (now (bytes .entry)) (at + 1) 0) space) ⌝ }
+{
+    if bytes.len() - at < 2 {
+        return false;
+    }
+    let letter = bytes[at];
+    if letter != one {
+        if letter != other {
+            return false;
+        }
+    }
+    bytes[at + 1] == fields::SPACE
+}
+
+// The title: kind, first and last day.
+pub fn title_used(bytes: &[u8]) -> usize
+    ensures title { λ r. ⌜ r ≡ titleUsed (now (bytes .entry)) ⌝ }
+    ensures fits { λ r. ⌜ r ≤ length (now (bytes .entry)) ⌝ }
+{
+    if !fields::starts_with(bytes, 0, b"TRA ") {
+        return 0;
+    }
+    if !letter_at(bytes, 4, SHORT, LONG) {
+        return 0;
+    }
+    both(
+        6,
+        fields::numbers_used(bytes, 6, fields::WORD_TOP, fields::NEWLINE, 2),
+    )
+}
+
+// A count behind the word of its section.
+fn count_behind(bytes: &[u8], at: usize, word: &[u8]) -> Field
+    requires { ⌜ at ≤ length (now bytes) ⌝ }
+    ensures used { λ r. ⌜ r .used ≡ behind (startsWith (now (word .entry)) (drop at (now (bytes .entry)))) (length (now (word .entry)))
+        (fieldAt wordTop newline (drop (length (now (word .entry))) (drop at (now (bytes .entry)))) .used) ⌝ }
+    ensures value { λ r. ⌜ r .value ≡ fieldAt wordTop newline (drop (length (now (word .entry))) (drop at (now (bytes .entry)))) .value ⌝ }
+    ensures fits { λ r. ⌜ at + r .used ≤ length (now (bytes .entry)) ⌝ }
+{
+    if bytes.len() - at < word.len() {
+        return Field { value: 0, used: 0 };
+    }
+    let count = fields::field_at(bytes, at + word.len(), fields::WORD_TOP, fields::NEWLINE);
+    if !fields::starts_with(bytes, at, word) {
+        return Field {
+            value: count.value,
+            used: 0,
+        };
+    }
+    Field {
+        value: count.value,
+        used: both(word.len(), count.used),
+    }
+}
+
+// The line before a section: its word and its count.
+pub fn count_line(bytes: &[u8], at: usize, part: Part) -> Field
+    requires { ⌜ at ≤ length (now bytes) ⌝ }
+    ensures used { λ r. ⌜ r .used ≡ countUsed part (drop at (now (bytes .entry))) ⌝ }
+    ensures value { λ r. ⌜ r .value ≡ countSaid part (drop at (now (bytes .entry))) ⌝ }
+    ensures fits { λ r. ⌜ at + r .used ≤ length (now (bytes .entry)) ⌝ }
+{
+    match part {
+        Part::Bidders => count_behind(bytes, at, b"bidders "),
+        Part::Paths => count_behind(bytes, at, b"paths "),
+        Part::Bids => count_behind(bytes, at, b"bids "),
+    }
+}
+
+// A bidder's line: bidder, cash and letter. The bidder's number is at least the one given.
+pub fn bidder_used(bytes: &[u8], at: usize, least: u64) -> usize
+    requires { ⌜ at ≤ length (now bytes) ⌝ }
+    ensures bidder { λ r. ⌜ r ≡ bidderUsed least (drop at (now (bytes .entry))) ⌝ }
+    ensures fits { λ r. ⌜ at + r ≤ length (now (bytes .entry)) ⌝ }
+{
+    let bidder = fields::field_at(bytes, at, fields::AMOUNT_TOP, fields::SPACE);
+    if bidder.value < least {
+        return 0;
+    }
+    if BIDDERS <= bidder.value {
+        return 0;
+    }
+    fields::numbers_used(bytes, at, fields::AMOUNT_TOP, fields::NEWLINE, 3)
+}
+
+// A path's line behind its number: direction, zone, base, FUL, A and B.
+fn route_used(bytes: &[u8], at: usize) -> usize
+    requires { ⌜ at ≤ length (now bytes) ⌝ }
+    ensures route { λ r. ⌜ r ≡ routeUsed (drop at (now (bytes .entry))) ⌝ }
+    ensures fits { λ r. ⌜ at + r ≤ length (now (bytes .entry)) ⌝ }
+{
+    if !letter_at(bytes, at, EXPORT, IMPORT) {
+        return 0;
+    }
+    both(
+        2,
+        fields::numbers_used(bytes, at + 2, fields::WORD_TOP, fields::NEWLINE, 5),
+    )
+}
+
+// A path's line, which has the number given.
+pub fn path_used(bytes: &[u8], at: usize, number: u64) -> usize
+    requires { ⌜ at ≤ length (now bytes) ⌝ }
+    ensures path { λ r. ⌜ r ≡ pathUsed number (drop at (now (bytes .entry))) ⌝ }
+    ensures fits { λ r. ⌜ at + r ≤ length (now (bytes .entry)) ⌝ }
+{
+    let path = fields::field_at(bytes, at, fields::WORD_TOP, fields::SPACE);
+    if path.value != number {
+        return 0;
+    }
+    both(path.used, route_used(bytes, at + path.used))
+}
+
+// A bid's line: bidder, path, stamp, n, and n pairs of price and MW.
+pub fn bid_used(bytes: &[u8], at: usize) -> usize
+    requires { ⌜ at ≤ length (now bytes) ⌝ }
+    ensures bid { λ r. ⌜ r ≡ bidUsed (drop at (now (bytes .entry))) ⌝ }
+    ensures fits { λ r. ⌜ at + r ≤ length (now (bytes .entry)) ⌝ }
+{
+    let head = fields::numbers_used(bytes, at, fields::WORD_TOP, fields::SPACE, 3);
+    let pairs = text::number_at(bytes, at + head);
+    let rest = fields::numbers_used(
+        bytes,
+        at + head,
+        fields::WORD_TOP,
+        fields::NEWLINE,
+        1 + 2 * pairs.value,
+    );
+    both(head, rest)
+}
+
+// A line of a section, by what the lines before it ask of it.
+pub fn line_at(part: Part, state: u64, bytes: &[u8], at: usize) -> Step
+    requires { ⌜ state + 1 < 2 ^ 64 ⌝ }
+    requires { ⌜ at ≤ length (now bytes) ⌝ }
+    ensures line { λ r. ⌜ r ≡ lineAt part state (drop at (now (bytes .entry))) ⌝ }
+    ensures fits { λ r. ⌜ at + r .used ≤ length (now (bytes .entry)) ⌝ }
+{
+    match part {
+        Part::Bidders => {
+            let bidder = fields::field_at(bytes, at, fields::AMOUNT_TOP, fields::SPACE);
+            Step {
+                used: bidder_used(bytes, at, state),
+                next: bidder.value + 1,
+            }
+        }
+        Part::Paths => Step {
+            used: path_used(bytes, at, state),
+            next: state + 1,
+        },
+        Part::Bids => Step {
+            used: bid_used(bytes, at),
+            next: state,
+        },
+    }
+}

@@ -1,0 +1,29 @@
+-- Document 01, the two lists that a round fills, word by word: "each 1 admitted or 0 over, bid value, MW, charge" and "each offered and sold
+-- in this round, price or 0".
+use mathlib.Core.List.{List}
+use Prim.Native.Nat.{ℕ, _+_, _*_}
+use lib.ListN.{getD}
+use Rattle.market.specs.Limits.{bidAnswerSize, pathAnswerSize}
+
+-- of a bid, by its number from 0
+abbrev pub markIn : List ℕ → ℕ → ℕ
+markIn answers bid = getD answers (bid * bidAnswerSize) 0
+
+abbrev pub valueIn : List ℕ → ℕ → ℕ
+valueIn answers bid = getD answers (bid * bidAnswerSize + 1) 0
+
+abbrev pub wonIn : List ℕ → ℕ → ℕ
+wonIn answers bid = getD answers (bid * bidAnswerSize + 2) 0
+
+abbrev pub chargeIn : List ℕ → ℕ → ℕ
+chargeIn answers bid = getD answers (bid * bidAnswerSize + 3) 0
+
+-- of a path
+abbrev pub offeredIn : List ℕ → ℕ → ℕ
+offeredIn results path = getD results (path * pathAnswerSize) 0
+
+abbrev pub soldIn : List ℕ → ℕ → ℕ
+soldIn results path = getD results (path * pathAnswerSize + 1) 0
+
+abbrev pub priceIn : List ℕ → ℕ → ℕ
+priceIn results path = getD results (path * pathAnswerSize + 2) 0

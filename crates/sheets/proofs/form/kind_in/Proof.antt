@@ -1,0 +1,16 @@
+use borrow.Author.Needs.{needs}
+use Rattle.sheets.proofs.FormLaws.{long-kind, short-kind}
+use Rattle.sheets.proofs.form.kind_in.Statement.{statement}
+use Rattle.sheets.proofs.form.kind_in.Tie as tie
+
+shared-slice-read-if1 : tie.Need-shared-slice-read-if1
+shared-slice-read-if1 c = search needs
+
+returns : tie.Need-returns
+returns c = long-kind (c .before .before .args .bytes .now) (c .if1 .taken)
+
+returns-2 : tie.Need-returns-2
+returns-2 c = short-kind (c .before .before .args .bytes .now) (c .if1 .left)
+
+pub kind-in-spec : {M : Type 1} → statement M
+kind-in-spec = tie.close (tie.spec shared-slice-read-if1 returns returns-2)

@@ -1,0 +1,79 @@
+use mathlib.Core.Path.{_∙_, ap}
+use mathlib.Core.List.{List, [], _∷_}
+use Prim.Native.Nat.{ℕ, _+_}
+use lib.ListN.{drop}
+use borrow.Author.Needs.{needs}
+use borrow.Author.Tests.{not-true, not-false}
+use Rattle.lines.specs.declared.part.Part.{Part}
+use Rattle.lines.specs.declared.part.Part.the-variants.{Bids}
+use Rattle.sheets.specs.Form.{formFrom}
+use Rattle.sheets.proofs.FormLaws.{form-faulty, form-on, laterRounds, rounds-are}
+use Rattle.sheets.proofs.form.rounds_form.Statement.{statement}
+use Rattle.sheets.proofs.form.rounds_form.Tie as tie
+
+section-at-requires : tie.Need-section-at-requires
+section-at-requires c κs = search needs
+
+cast-next : tie.Need-cast-next
+cast-next c = search needs
+
+add-next : tie.Need-add-next
+add-next c = search needs
+
+add-second : tie.Need-add-second
+add-second c = search needs
+
+returns : tie.Need-returns
+returns c =
+    let a = c .before .before .before .before .before .before .args in
+    let s = c .before .before .before .before .section-at in (
+      form-faulty Bids (laterRounds (a .kind)) (a .bytes .now) (a .at) (a .line) (s .result) (s .ensures .0) (s .ensures .1 .0) (not-true (s .result .stands) (c .if1 .taken))
+          ∙ ap (λ (parts : List Part). formFrom parts (a .line) (drop (a .at) (a .bytes .now))) (rounds-are (a .kind)),
+      (ap (λ (n : ℕ). a .at + n) (s .ensures .1 .1 .0), s .ensures .1 .1 .1 .0),
+    )
+
+enum-told : tie.Need-enum-told
+enum-told c = search needs
+
+end-form-requires : tie.Need-end-form-requires
+end-form-requires c κs = search needs
+
+enum-told-2 : tie.Need-enum-told-2
+enum-told-2 c = search needs
+
+last-round-requires : tie.Need-last-round-requires
+last-round-requires c κs = search needs
+
+returns-2 : tie.Need-returns-2
+returns-2 c =
+    let a = c .before .before .before .before .before .before .before .before .before .args in
+    let s = c .before .before .before .before .before .before .before .section-at in (
+      rw (c .before .enum-told .given .1)
+          (form-on Bids [] (a .bytes .now) (a .at) (a .line) (s .result) (s .ensures .0) (s .ensures .1 .0) (c .end-form .result) (s .ensures .1 .1 .0) (not-false (s .result .stands) (c .before .before .before .if1 .left)) (c .end-form .ensures)),
+      (ap (λ (n : ℕ). a .at + n) (s .ensures .1 .1 .0), s .ensures .1 .1 .1 .0),
+    )
+
+returns-3 : tie.Need-returns-3
+returns-3 c =
+    let a = c .before .before .before .before .before .before .before .before .before .args in
+    let s = c .before .before .before .before .before .before .before .section-at in (
+      rw (c .before .enum-told2 .given .1)
+          (form-on Bids (Bids ∷ []) (a .bytes .now) (a .at) (a .line) (s .result) (s .ensures .0) (s .ensures .1 .0) (c .last-round .result) (s .ensures .1 .1 .0) (not-false (s .result .stands) (c .before .before .before .if1 .left)) (c .last-round .ensures)),
+      (ap (λ (n : ℕ). a .at + n) (s .ensures .1 .1 .0), s .ensures .1 .1 .1 .0),
+    )
+
+pub rounds-form-spec : {M : Type 1} → statement M
+rounds-form-spec =
+    tie.close
+    (tie.spec
+    section-at-requires
+    cast-next
+    add-next
+    add-second
+    returns
+    enum-told
+    end-form-requires
+    enum-told-2
+    last-round-requires
+    returns-2
+    returns-3)

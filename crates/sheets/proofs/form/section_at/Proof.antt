@@ -1,0 +1,65 @@
+use native.Mathlib.Omega.{arith}
+use borrow.Author.Needs.{needs}
+use Rattle.sheets.proofs.FormLaws.{none-stands, none-lines, none-used, some-stands, some-lines, some-used}
+use Rattle.sheets.proofs.form.section_at.Statement.{statement}
+use Rattle.sheets.proofs.form.section_at.Tie as tie
+
+count-line-requires : tie.Need-count-line-requires
+count-line-requires c κs = search needs
+
+returns : tie.Need-returns
+returns c =
+    let start = c .before .before .before .before in
+    let a = start .args in
+    let count = c .before .before .count-line in
+    let none = c .if1 .taken in (
+      none-stands (a .part) (a .bytes .now) (a .at) (count .result .used) (count .result .value) (count .ensures .0) (count .ensures .1 .0) none,
+      (
+        none-lines (a .part) (a .bytes .now) (a .at) (count .result .used) (count .result .value) (count .ensures .0) (count .ensures .1 .0) none,
+        (
+          none-used (a .part) (a .bytes .now) (a .at) (count .result .used) (count .result .value) (count .ensures .0) (count .ensures .1 .0) none,
+          (omega (arith, start .pre .0), omega arith),
+        ),
+      ),
+    )
+
+add-lines-from : tie.Need-add-lines-from
+add-lines-from c = search needs
+
+lines-from-requires : tie.Need-lines-from-requires
+lines-from-requires c κs = search needs
+
+add-t7 : tie.Need-add-t7
+add-t7 c = search needs
+
+add-t9 : tie.Need-add-t9
+add-t9 c = search needs
+
+returns-2 : tie.Need-returns-2
+returns-2 c =
+    let start = c .before .before .before .before .before .before .before .before .before .before in
+    let a = start .args in
+    let count = c .before .before .before .before .before .before .before .before .count-line in
+    let more = c .before .before .before .before .lines-from in
+    let some = c .before .before .before .before .before .before .if1 .left in (
+      some-stands (a .part) (a .bytes .now) (a .at) (count .result .used) (count .result .value) (count .ensures .0) (count .ensures .1 .0) some (more .result) (more .ensures .0),
+      (
+        some-lines (a .part) (a .bytes .now) (a .at) (count .result .used) (count .result .value) (count .ensures .0) (count .ensures .1 .0) some (more .result) (more .ensures .0),
+        (
+          some-used (a .part) (a .bytes .now) (a .at) (count .result .used) (count .result .value) (count .ensures .0) (count .ensures .1 .0) some (more .result) (more .ensures .0),
+          (omega (arith, more .ensures .1 .0), omega (arith, some, more .ensures .1 .1)),
+        ),
+      ),
+    )
+
+pub section-at-spec : {M : Type 1} → statement M
+section-at-spec =
+    tie.close
+    (tie.spec
+    count-line-requires
+    returns
+    add-lines-from
+    lines-from-requires
+    add-t7
+    add-t9
+    returns-2)

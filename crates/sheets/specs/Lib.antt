@@ -1,0 +1,5 @@
+-- What a sheet is, and how its form is tested.
+pub mod Form
+pub mod Reading
+pub mod Sheet
+pub mod Words

@@ -1,0 +1,115 @@
+-- What a text in the form of a sheet says, read line after line.
+use mathlib.Core.Bool.{Bool, true, false}
+use mathlib.Core.List.{List, [], _∷_, _++_}
+use Prim.Native.Nat.{ℕ, zero, suc, _+_}
+use lib.Dec.{eqb}
+use lib.ListN.{getD, drop, take}
+use Rattle.market.specs.declared.book.Direction.{Direction}
+use Rattle.market.specs.declared.book.Direction.the-variants.{Export, Import}
+use Rattle.bids.specs.Bids.{Bid, bidAt}
+use Rattle.lines.specs.Fields.{space, newline, wordTop, amountTop, fieldAt, numbersUsed, numbersSaid}
+use Rattle.lines.specs.Lines.{daysPlace, titleUsed, countUsed, countSaid, directionByte, fromCount, lineAt}
+use Rattle.lines.specs.declared.part.Part.{Part}
+use Rattle.lines.specs.declared.part.Part.the-variants.{Bidders, Paths, Bids}
+use Rattle.sheets.specs.Form.{sectionAt, kindIn}
+use Rattle.sheets.specs.Sheet.{BidderLine, PathLine, Sheet, roundsOf}
+
+-- ---- Lines
+
+-- so many lines of a section, each read where the one before it ends
+abbrev pub linesIn : {X : Type 0} → Part → (List ℕ → X) → ℕ → ℕ → List ℕ → List X
+linesIn part read zero state text = []
+linesIn part read (suc k) state text =
+    read text ∷ linesIn part read k (lineAt part state text .next) (drop (lineAt part state text .used) text)
+
+-- "bidder .., cash, letter"
+abbrev pub bidderOf : List ℕ → BidderLine
+bidderOf said = record { bidder = getD said 0 0; cash = getD said 1 0; letter = getD said 2 0 }
+
+abbrev pub bidderAt : List ℕ → BidderLine
+bidderAt text = bidderOf (numbersSaid amountTop newline 3 text)
+
+-- "direction, zone, base, FUL, A, B"
+abbrev pub importIf : Bool → Direction
+importIf true = Import
+importIf false = Export
+
+abbrev pub directionOf : ℕ → Direction
+directionOf c = importIf (eqb c (directionByte Import))
+
+abbrev pub pathOf : Direction → List ℕ → PathLine
+pathOf way said =
+    record {
+      direction = way;
+      zone = getD said 0 0;
+      base = getD said 1 0;
+      upper = getD said 2 0;
+      first = getD said 3 0;
+      second = getD said 4 0;
+    }
+
+-- a path's line behind its number
+abbrev pub routeIn : List ℕ → PathLine
+routeIn text = pathOf (directionOf (getD text 0 0)) (numbersSaid wordTop newline 5 (drop 2 text))
+
+abbrev pub afterNumber : List ℕ → List ℕ
+afterNumber text = drop (fieldAt wordTop space text .used) text
+
+abbrev pub pathAt : List ℕ → PathLine
+pathAt text = routeIn (afterNumber text)
+
+-- a bid: its numbers are the words that a round takes
+abbrev pub afterStamp : List ℕ → List ℕ
+afterStamp text = drop (numbersUsed wordTop space 3 text) text
+
+abbrev pub bidWords : List ℕ → List ℕ
+bidWords text =
+    numbersSaid wordTop space 3 text ++ numbersSaid wordTop newline (fromCount (afterStamp text)) (afterStamp text)
+
+abbrev pub bidIn : List ℕ → Bid
+bidIn text = bidAt (bidWords text) 0
+
+-- ---- Sections
+
+-- what the lines of a section say, behind its count line
+abbrev pub sectionSays : {X : Type 0} → Part → (List ℕ → X) → List ℕ → List X
+sectionSays part read text = linesIn part read (countSaid part text) 0 (drop (countUsed part text) text)
+
+-- "the part of the sheet that it occupies", and what stands behind it
+abbrev pub partAt : Part → List ℕ → List ℕ
+partAt part text = take (sectionAt part text .used) text
+
+abbrev pub behindPart : Part → List ℕ → List ℕ
+behindPart part text = drop (sectionAt part text .used) text
+
+-- so many sections of bids, one behind another
+abbrev pub roundsAt : ℕ → List ℕ → List (List Bid)
+roundsAt zero text = []
+roundsAt (suc k) text = sectionSays Bids bidIn text ∷ roundsAt k (behindPart Bids text)
+
+-- ---- The sheet
+
+-- where each section begins
+abbrev pub atBidders : List ℕ → List ℕ
+atBidders text = drop (titleUsed text) text
+
+abbrev pub atPaths : List ℕ → List ℕ
+atPaths text = behindPart Bidders (atBidders text)
+
+abbrev pub atRounds : List ℕ → List ℕ
+atRounds text = behindPart Paths (atPaths text)
+
+-- the first and the last day
+abbrev pub daysIn : List ℕ → List ℕ
+daysIn text = numbersSaid wordTop newline 2 (drop daysPlace text)
+
+unfoldable pub sheetIn : List ℕ → Sheet
+sheetIn text =
+    record {
+      kind = kindIn text;
+      first = getD (daysIn text) 0 0;
+      last = getD (daysIn text) 1 0;
+      bidders = sectionSays Bidders bidderAt (atBidders text);
+      paths = sectionSays Paths pathAt (atPaths text);
+      rounds = roundsAt (roundsOf (kindIn text)) (atRounds text);
+    }

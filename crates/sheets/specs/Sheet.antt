@@ -1,0 +1,140 @@
+-- Document 01, "Sheets", by how one is written: what a sheet says, and its bytes.
+use mathlib.Core.Bool.{Bool, true, _&&_}
+use mathlib.Core.List.{List, [], _∷_, _++_, map}
+use Prim.Native.Nat.{ℕ, _+_}
+use lib.Dec.{leb, ltb, eqb}
+use lib.ListN.{length}
+use Rattle.market.specs.Books.{every}
+use Rattle.market.specs.Limits.{bidderLimit}
+use Rattle.market.specs.declared.book.Direction.{Direction}
+use Rattle.market.specs.declared.book.Kind.{Kind}
+use Rattle.market.specs.declared.book.Kind.the-variants.{Short, Long}
+use Rattle.text.specs.Decimal.{decimal}
+use Rattle.bids.specs.Bids.{Bid}
+use Rattle.bids.specs.Encoding.{bidEncoded}
+use Rattle.lines.specs.Fields.{line, numbersLine, wordTop, amountTop}
+use Rattle.lines.specs.Lines.{titleWord, kindByte, partWord, directionByte}
+use Rattle.lines.specs.declared.part.Part.{Part}
+use Rattle.lines.specs.declared.part.Part.the-variants.{Bidders, Paths, Bids}
+
+-- ---- What it says
+
+-- "bidder 0 to 31, cash, letter"
+pub record BidderLine : Type 0 where
+  pub bidder : ℕ
+  pub cash : ℕ
+  pub letter : ℕ
+
+-- "direction, zone, base, FUL, A, B"
+pub record PathLine : Type 0 where
+  pub direction : Direction
+  pub zone : ℕ
+  pub base : ℕ
+  pub upper : ℕ
+  pub first : ℕ
+  pub second : ℕ
+
+-- "kind, first and last day", the sections, and of bids as many as the kind has rounds
+pub record Sheet : Type 0 where
+  pub kind : Kind
+  pub first : ℕ
+  pub last : ℕ
+  pub bidders : List BidderLine
+  pub paths : List PathLine
+  pub rounds : List (List Bid)
+
+-- "L has two bids sections."
+abbrev pub roundsOf : Kind → ℕ
+roundsOf Short = 1
+roundsOf Long = 2
+
+-- ---- How it is written
+
+-- "TRA S 9191 9221"
+abbrev pub titleLine : Sheet → List ℕ
+titleLine s = line (titleWord ∷ (kindByte (s .kind) ∷ []) ∷ decimal (s .first) ∷ decimal (s .last) ∷ [])
+
+-- "3 100000 0"
+abbrev pub bidderLine : BidderLine → List ℕ
+bidderLine x = numbersLine (x .bidder ∷ x .cash ∷ x .letter ∷ [])
+
+-- "0 X 2 1000 60 80 100"
+abbrev pub pathLine : ℕ → PathLine → List ℕ
+pathLine number p =
+    line
+    (decimal number
+    ∷ (directionByte (p .direction) ∷ [])
+    ∷ map decimal (p .zone ∷ p .base ∷ p .upper ∷ p .first ∷ p .second ∷ []))
+
+-- "3 0 100 2 20000 20 15000 30": the words that a round takes
+abbrev pub bidLine : Bid → List ℕ
+bidLine b = numbersLine (bidEncoded b)
+
+-- "each after its count"
+abbrev pub countLine : Part → ℕ → List ℕ
+countLine part count = line (partWord part ∷ decimal count ∷ [])
+
+abbrev pub bidderLines : List BidderLine → List ℕ
+bidderLines [] = []
+bidderLines (x ∷ xs) = bidderLine x ++ bidderLines xs
+
+abbrev pub pathLines : ℕ → List PathLine → List ℕ
+pathLines number [] = []
+pathLines number (p ∷ ps) = pathLine number p ++ pathLines (number + 1) ps
+
+abbrev pub bidLines : List Bid → List ℕ
+bidLines [] = []
+bidLines (b ∷ bs) = bidLine b ++ bidLines bs
+
+-- a section of bids
+abbrev pub bidSection : List Bid → List ℕ
+bidSection bids = countLine Bids (length bids) ++ bidLines bids
+
+abbrev pub bidSections : List (List Bid) → List ℕ
+bidSections [] = []
+bidSections (bids ∷ more) = bidSection bids ++ bidSections more
+
+-- "Sections stand in a fixed order"
+unfoldable pub sheetText : Sheet → List ℕ
+sheetText s =
+    titleLine s
+    ++ (countLine Bidders (length (s .bidders)) ++ bidderLines (s .bidders))
+    ++ (countLine Paths (length (s .paths)) ++ pathLines 0 (s .paths))
+    ++ bidSections (s .rounds)
+
+-- ---- Which sheets can be written
+
+-- "fits 32 bits"
+abbrev pub fits : ℕ → Bool
+fits n = leb n wordTop
+
+-- "cash and letter excepted": "at most 13 digits"
+abbrev pub fitsAmount : ℕ → Bool
+fitsAmount n = leb n amountTop
+
+-- "numbers strictly rising", each at least so much and "0 to 31"
+abbrev pub rightBidders : ℕ → List BidderLine → Bool
+rightBidders least [] = true
+rightBidders least (x ∷ xs) =
+    (leb least (x .bidder) && ltb (x .bidder) bidderLimit && fitsAmount (x .cash) && fitsAmount (x .letter))
+    && rightBidders (x .bidder + 1) xs
+
+abbrev pub rightPath : PathLine → Bool
+rightPath p = fits (p .zone) && fits (p .base) && fits (p .upper) && fits (p .first) && fits (p .second)
+
+abbrev pub rightBid : Bid → Bool
+rightBid b = every fits (bidEncoded b)
+
+-- a section, whose count is a number too
+abbrev pub rightSection : List Bid → Bool
+rightSection bids = fits (length bids) && every rightBid bids
+
+unfoldable pub rightSheet : Sheet → Bool
+rightSheet s =
+    fits (s .first)
+    && fits (s .last)
+    && rightBidders 0 (s .bidders)
+    && fits (length (s .paths))
+    && every rightPath (s .paths)
+    && eqb (length (s .rounds)) (roundsOf (s .kind))
+    && every rightSection (s .rounds)

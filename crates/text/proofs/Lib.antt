@@ -1,0 +1,4 @@
+-- Laws about numbers as text.
+pub mod DecimalLaws
+pub mod PutLaws
+pub mod ReadLaws

@@ -1,0 +1,82 @@
+use Rattle.text.proofs.DecimalLaws.{is-digit}
+use native.Mathlib.Omega.{arith}
+use borrow.Author.Needs.{needs}
+use Prim.Native.Nat.{_-_}
+use lib.ListN.{length, getD}
+use Rattle.text.proofs.ReadLaws.{CountedTo, counted-one, counted-all, past-text, past-digits, below-digits, above-digits}
+use Rattle.text.proofs.digits_at.Statement.{statement}
+use Rattle.text.proofs.digits_at.Tie as tie
+
+abbrev Inv-loop : tie.InvT-loop
+Inv-loop text at i₀ i = CountedTo text at i
+
+abbrev μ-loop : tie.MeasureT-loop
+μ-loop text at i₀ i = length text - i
+
+loop-holds : tie.Need-loop-holds Inv-loop μ-loop
+loop-holds c = search needs
+
+shared-slice-read-c : tie.Need-shared-slice-read-c Inv-loop μ-loop
+shared-slice-read-c c = search needs
+
+sub-result : tie.Need-sub-result Inv-loop μ-loop
+sub-result c = search needs
+
+returns : tie.Need-returns Inv-loop μ-loop
+returns c =
+    let a = c .before .before .before .before .args in
+    let to = c .before .before .before .loop in
+    counted-all (a .text .now) (a .at) (to .i) (to .inv)
+    (past-digits (a .text .now) (to .i) (search needs)
+    (below-digits (getD (a .text .now) (to .i) 0) (omega arith)))
+
+sub-result-2 : tie.Need-sub-result-2 Inv-loop μ-loop
+sub-result-2 c = search needs
+
+returns-2 : tie.Need-returns-2 Inv-loop μ-loop
+returns-2 c =
+    let a = c .before .before .before .before .before .args in
+    let to = c .before .before .before .before .loop in
+    counted-all (a .text .now) (a .at) (to .i) (to .inv)
+    (past-digits (a .text .now) (to .i) (search needs)
+    (above-digits (getD (a .text .now) (to .i) 0) (omega arith)))
+
+add-i : tie.Need-add-i Inv-loop μ-loop
+add-i c = search needs
+
+loop-less : tie.Need-loop-less Inv-loop μ-loop
+loop-less c = search needs
+
+loop-again : tie.Need-loop-again Inv-loop μ-loop
+loop-again c =
+    let a = c .before .before .before .before .before .args in
+    let to = c .before .before .before .before .loop in
+    counted-one (a .text .now) (a .at) (to .i) (to .inv) (search needs)
+    (is-digit (getD (a .text .now) (to .i) 0) (omega arith) (omega arith))
+
+sub-result-3 : tie.Need-sub-result-3 Inv-loop μ-loop
+sub-result-3 c = search needs
+
+returns-3 : tie.Need-returns-3 Inv-loop μ-loop
+returns-3 c =
+    let a = c .before .before .args in
+    let to = c .before .loop in
+    counted-all (a .text .now) (a .at) (to .i) (to .inv) (past-text (a .text .now) (to .i) (omega arith))
+
+pub digits-at-spec : {M : Type 1} → statement M
+digits-at-spec =
+    tie.close
+    (tie.spec
+    Inv-loop
+    μ-loop
+    loop-holds
+    shared-slice-read-c
+    sub-result
+    returns
+    sub-result-2
+    returns-2
+    add-i
+    loop-less
+    loop-again
+    sub-result-3
+    returns-3)

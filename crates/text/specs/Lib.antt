@@ -1,0 +1,3 @@
+-- Numbers as text, and text put into a list.
+pub mod Decimal
+pub mod Put
