@@ -23,7 +23,7 @@ use Rattle.sheets.specs.Reading.{sheetIn}
 use Rattle.sheets.specs.Sheet.{BidderLine, PathLine, Sheet}
 use Rattle.sheets.specs.declared.form.Form.{Form}
 use Rattle.sheets.specs.declared.form.Form.the-variants.{Right, Faulty}
-use Rattle.award_sheet.specs.AwardSheet.{RoundMade, awardText, refusedLine, refusedText}
+use Rattle.award_sheet.specs.AwardSheet.{RoundMade, awardText, formRefusal, refusedLine, refusedText}
 
 -- ---- Calls in sheet order
 
@@ -139,7 +139,7 @@ sheetOutput s = written (answerNumber (whole s .outcome .answer)) s (whole s)
 -- "The form is tested over the whole sheet first; a form fault prints only "refused 40 line L""
 abbrev pub byForm : Form → List ℕ → List ℕ
 byForm Right output = output
-byForm (Faulty line) output = refusedLine 40 line
+byForm (Faulty line) output = refusedLine formRefusal line
 
 unfoldable pub outputOf : List ℕ → List ℕ
 outputOf text = byForm (formOf text) (sheetOutput (sheetIn text))

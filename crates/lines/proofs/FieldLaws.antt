@@ -5,7 +5,7 @@ use mathlib.Core.List.{List, [], _∷_, _++_, append-assoc}
 use Prim.Native.Nat.{ℕ, zero, suc, _+_, _≤_, _<_, _^_}
 use native.Mathlib.Omega.{arith}
 use lib.Dec.{leb, eqb}
-use lib.ListN.{length, getD, drop, length-append}
+use lib.ListN.{length, getD, drop, length-append, List·getD-eq-default}
 use lib.Seq.{drop-append-seam, drop-drop, drop-cons, getD-at}
 use borrow.Author.Tests.{leb-true, leb-false, le-leb, eqb-true, eq-eqb}
 use Rattle.market.proofs.Tests.{left-true, right-true}
@@ -34,17 +34,12 @@ front-both w v text first second =
 
 -- ---- A field
 
-past-zero : (l : List ℕ) (i : ℕ) → length l ≤ i → getD l i 0 ≡ 0
-past-zero [] i h = refl
-past-zero (x ∷ l) zero h = absurd (let none : ⊥ = omega arith in none)
-past-zero (x ∷ l) (suc i) h = past-zero l i (omega arith)
-
 -- a byte that is not 0 stands in the text
 stands : (text : List ℕ) (i stop : ℕ) → getD text i 0 ≡ stop → 1 ≤ stop → drop i text ≡ stop ∷ drop (i + 1) text
 stands text i stop is some = go (leb (length text) i) refl
   where
     go : (t : Bool) → leb (length text) i ≡ t → drop i text ≡ stop ∷ drop (i + 1) text
-    go true e = absurd (let none : ⊥ = omega (arith, is, past-zero text i (leb-true (length text) i e)) in none)
+    go true e = absurd (let none : ⊥ = omega (arith, is, List·getD-eq-default text 0 {n = i} (leb-true (length text) i e)) in none)
     go false e =
         drop-cons text i 0 (leb-false (length text) i e)
         ∙ ap₂ _∷_ is (ap (λ (k : ℕ). drop k text) (let more : suc i ≡ i + 1 = omega arith in more))

@@ -1,22 +1,19 @@
 -- Lines counted one by one, as `lines_from` does.
 use mathlib.Core.Path.{_≡_, refl, sym, _∙_, ap, ap₂, subst}
-use mathlib.Core.Bool.{Bool, true, false, cond, _&&_}
+use mathlib.Core.Bool.{Bool, true, false, _&&_}
 use mathlib.Core.List.{List, [], _∷_}
-use Prim.Native.Nat.{ℕ, suc, _+_, _-_, _≤_, _<_, _^_}
+use Prim.Native.Nat.{ℕ, suc, _+_, _*_, _-_, _≤_, _<_}
 use native.Mathlib.Omega.{arith}
 use lib.Dec.{leb, eqb}
 use lib.ListN.{length, drop, getD, replicate, length-drop}
 use lib.Seq.{drop-drop}
-use borrow.Author.Tests.{leb-true, le-leb, lt-leb, eqb-true, eqb-false, eq-eqb, ne-eqb}
-use Rattle.market.proofs.Tests.{left-true, right-true}
-use Rattle.market.specs.Limits.{sheetBytes}
+use borrow.Author.Tests.{le-leb, lt-leb, eqb-true, eqb-false, eq-eqb, ne-eqb}
+use Rattle.market.specs.Limits.{bidderLimit, sheetBytes}
 use Rattle.market.specs.declared.book.Kind.{Kind}
 use Rattle.market.specs.declared.book.Kind.the-variants.{Short, Long}
-use Rattle.text.specs.Decimal.{numberAt}
-use Rattle.text.specs.declared.Number.{Number}
-use Rattle.lines.specs.Fields.{space, newline, wordTop, amountTop, startsWith, spaced, fieldAt, numbersUsed}
+use Rattle.lines.proofs.LineLaws.{line-next}
+use Rattle.lines.specs.Fields.{space, newline, wordTop, startsWith, spaced, numbersUsed}
 use Rattle.lines.specs.Lines.{titleWord, kindByte, isKind, longIf, kindPlace, daysPlace, titleUsed, countUsed, countSaid, lineAt}
-use Rattle.lines.specs.declared.fields.Field.{Field}
 use Rattle.lines.specs.declared.part.Part.{Part}
 use Rattle.lines.specs.declared.part.Part.the-variants.{Bidders, Paths, Bids}
 use Rattle.lines.specs.declared.part.Step.{Step}
@@ -29,29 +26,6 @@ use Rattle.sheets.specs.declared.form.Section.{Section}
 use Rattle.sheets.proofs.LineLaws.{behind-read}
 use Rattle.sheets.proofs.SectionLaws.{then-some}
 
--- ---- What a line asks of the next
-
-value-within : (limit stop : ℕ) (text : List ℕ) → fieldAt limit stop text .value ≤ limit
-value-within limit stop text = go here refl
-  where
-    n : Number
-    n = numberAt text
-
-    here : Bool
-    here = leb 1 (n .digits) && leb (n .value) limit && eqb (getD text (n .digits) 0) stop
-
-    go : (t : Bool) → here ≡ t → cond t (let f : Field = record { value = n .value; used = n .digits + 1 } in f) (record { value = 0; used = 0 }) .value ≤ limit
-    go true e =
-        leb-true (n .value) limit
-        (right-true (leb 1 (n .digits)) (leb (n .value) limit)
-        (left-true (leb 1 (n .digits) && leb (n .value) limit) (eqb (getD text (n .digits) 0) stop) e))
-    go false e = omega arith
-
-next-within : (part : Part) (state : ℕ) (text : List ℕ) (lines : ℕ) → state ≤ 10 ^ 13 + lines → lineAt part state text .next ≤ 10 ^ 13 + (lines + 1)
-next-within Bidders state text lines h = omega (arith, value-within amountTop space text)
-next-within Paths state text lines h = omega arith
-next-within Bids state text lines h = omega arith
-
 -- ---- Lines that were read, and the rest
 
 abbrev after : ℕ → ℕ → Read → Read
@@ -61,7 +35,7 @@ pub record LinesTo (part : Part) (bytes : List ℕ) (at count lines used state l
   pub rest : linesAt part count 0 (drop at bytes) ≡ after lines used (linesAt part left state (drop (at + used) bytes))
   pub fits : at + used ≤ length bytes
   pub few : lines ≤ used
-  pub bound : state ≤ 10 ^ 13 + lines
+  pub bound : state ≤ lines * bidderLimit
 
 same-read : {a b c d : ℕ} → a ≡ c → b ≡ d → after a b (record { lines = 0; used = 0 }) ≡ record { lines = c; used = d }
 same-read {a} {b} {c} {d} p q =
@@ -130,7 +104,7 @@ module _ (part : Part) (bytes : List ℕ) (at count lines used state left : ℕ)
                   (let e : used + (here .used + further .used) ≡ used + here .used + further .used = omega arith in e);
               fits = omega (arith, room);
               few = omega (arith, s .few, good);
-              bound = next-within part state (drop (at + used) bytes) lines (s .bound);
+              bound = omega (arith, line-next part state (drop (at + used) bytes) good, s .bound);
             }
 
 -- ---- A section
