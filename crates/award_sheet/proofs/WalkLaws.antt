@@ -8,11 +8,16 @@ use lib.Dec.{ltb}
 use lib.ListN.{length}
 use Rattle.market.specs.Limits.{pathLimit}
 use Rattle.text.specs.Put.{putAt}
-use Rattle.bids.proofs.Walk.{Walk, left, soundList, walk-start, left-start, walk-on, walk-done, left-splits}
+use Rattle.bids.proofs.BidLaws.{fits-list}
+use Rattle.bids.proofs.Walk.{Walk, left, soundList, bid-right, walk-start, left-start, walk-on, walk-done, left-splits}
 use Rattle.bids.specs.Bids.{Bid, bidAt, bidEnd, bidsOf}
 use Rattle.round.specs.Answers.{wonIn}
 use Rattle.award_sheet.specs.AwardSheet.{winners}
 use Rattle.award_sheet.proofs.PutLaws.{WrittenTo, written-none, written-fits, written-on, written-done}
+
+-- the list has all words of the bid here
+pub bid-whole : (words : List ℕ) (k place : ℕ) → Walk pathLimit words k place → place < length words → bidEnd words place ≤ length words
+bid-whole words k place walk inside = fits-list pathLimit words place (bid-right pathLimit words k place walk inside)
 
 -- the lines of the first `k` bids are written, and those of the rest are to come
 pub record LinesTo (lines : ℕ → List Bid → List ℕ) (words before : List ℕ) (at k place end : ℕ) (out : List ℕ) : Type 0 where

@@ -58,6 +58,7 @@ fn unlent(book: Book, what: Call) -> Outcome {
     plain(book, &mut words, what)
 }
 
+// A deposit: its line, and the outcome.
 pub fn deposit(book: Book, bidder: u32, to: Funds, amount: u64) -> Outcome {
     show::account_call(b"deposit", bidder, to, amount);
     let cents = Cents(amount);
@@ -69,6 +70,7 @@ pub fn deposit(book: Book, bidder: u32, to: Funds, amount: u64) -> Outcome {
     show::answered(unlent(book, what))
 }
 
+// A withdrawal.
 pub fn withdraw(book: Book, bidder: u32, from: Funds, amount: u64) -> Outcome {
     show::account_call(b"withdraw", bidder, from, amount);
     let cents = Cents(amount);
@@ -80,6 +82,7 @@ pub fn withdraw(book: Book, bidder: u32, from: Funds, amount: u64) -> Outcome {
     show::answered(unlent(book, what))
 }
 
+// A payment; the register is lent.
 pub fn pay(book: Book, words: &mut [u32], bidder: u32, amount: u64) -> Outcome {
     report::text(b"pay");
     report::number(bidder as u64);
@@ -92,6 +95,7 @@ pub fn pay(book: Book, words: &mut [u32], bidder: u32, amount: u64) -> Outcome {
     show::answered(plain(book, words, what))
 }
 
+// A default; the register is lent.
 pub fn default(book: Book, words: &mut [u32], bidder: u32) -> Outcome {
     report::text(b"default");
     report::number(bidder as u64);
@@ -99,6 +103,7 @@ pub fn default(book: Book, words: &mut [u32], bidder: u32) -> Outcome {
     show::answered(plain(book, words, what))
 }
 
+// Entries retired before a day; the register is lent.
 pub fn retire(book: Book, words: &mut [u32], day: u32) -> Outcome {
     report::text(b"retire");
     report::number(day as u64);
@@ -107,6 +112,7 @@ pub fn retire(book: Book, words: &mut [u32], day: u32) -> Outcome {
     show::answered(plain(book, words, what))
 }
 
+// Rent into the account.
 pub fn rent(book: Book, amount: u64) -> Outcome {
     report::text(b"rent");
     report::number(amount);
@@ -115,6 +121,7 @@ pub fn rent(book: Book, amount: u64) -> Outcome {
     show::answered(unlent(book, what))
 }
 
+// An auction opened with the quantities of its paths; the register is lent.
 pub fn open(
     book: Book,
     words: &mut [u32],
@@ -153,6 +160,7 @@ pub fn open(
     ))
 }
 
+// A round of a list of bids; the register and the round's own lists are lent.
 pub fn round(
     book: Book,
     words: &mut [u32],
@@ -184,6 +192,7 @@ pub fn round(
     ))
 }
 
+// An hour's payout, failed or priced; the register is lent, and the list that the amounts go to.
 pub fn payout(
     book: Book,
     words: &mut [u32],
@@ -255,6 +264,7 @@ fn share(
     )
 }
 
+// A total out of the account, shared by four columns; the list that the shares go to is lent.
 pub fn disburse(
     book: Book,
     total: u64,
@@ -271,6 +281,7 @@ pub fn disburse(
     show::answered(share(book, what, provincial, export, meters, interties, amounts))
 }
 
+// A total into the account, shared the same way.
 pub fn recover(
     book: Book,
     total: u64,

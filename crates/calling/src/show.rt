@@ -14,6 +14,7 @@ pub const BLANK: u32 = 7;
 
 pub const BLANK_WIDE: u64 = 7;
 
+// A line that names the cases behind it.
 pub fn heading(name: &[u8]) {
     report::text(b"- ");
     report::text(name);
@@ -53,6 +54,7 @@ fn days(period: Period) {
     day(last);
 }
 
+// An open: its kind and days.
 pub fn open_call(kind: Kind, first: u32, last: u32) {
     report::text(b"open");
     kind_of(kind);

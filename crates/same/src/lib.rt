@@ -110,6 +110,7 @@ fn same_balance(one: Balance, other: Balance) -> bool {
     one.0 == other.0
 }
 
+// Whether two books hold the same, slots past the paths included.
 pub fn books(one: Book, other: Book) -> bool {
     let paths = one.paths;
     let other_paths = other.paths;
@@ -141,6 +142,7 @@ pub fn sum(start: u64, words: &[u32]) -> u64 {
     found
 }
 
+// The same of a list of 64-bit words.
 pub fn wide_sum(start: u64, words: &[u64]) -> u64 {
     let mut found = start;
     for at in 0..words.len() {

@@ -3,11 +3,10 @@ use mathlib.Core.Path.{refl}
 use Prim.Native.Nat.{_-_}
 use lib.ListN.{length}
 use Rattle.market.specs.Limits.{pathLimit}
-use Rattle.bids.proofs.BidLaws.{fits-list}
-use Rattle.bids.proofs.Walk.{bid-right, bid-below}
+use Rattle.bids.proofs.Walk.{bid-below}
 use Rattle.award_sheet.specs.AwardSheet.{bidLine, bidLines}
 use Rattle.award_sheet.proofs.PutLaws.{written-same}
-use Rattle.award_sheet.proofs.WalkLaws.{LinesTo, lines-start, lines-done, lines-fit, lines-on}
+use Rattle.award_sheet.proofs.WalkLaws.{bid-whole, LinesTo, lines-start, lines-done, lines-fit, lines-on}
 use Rattle.award_sheet.proofs.bid_lines.put_bid_lines.Statement.{statement}
 use Rattle.award_sheet.proofs.bid_lines.put_bid_lines.Tie as tie
 
@@ -31,8 +30,7 @@ put-bid-line-requires c κs =
     let l = a .answers .now in
     let at = c .before .before .loop in
     let inside = c .before .loop-test .taken in
-    let good = bid-right pathLimit w (at .k) (at .place) (at .inv .walk) inside in
-    let fits = fits-list pathLimit w (at .place) good in
+    let fits = bid-whole w (at .k) (at .place) (at .inv .walk) inside in
     let below = bid-below pathLimit w (at .k) (at .place) (at .inv .walk) inside (start .pre .0) in
     (omega (arith, fits), (below, (start .pre .1 .1 .0, lines-fit (bidLine l) (bidLines l) (λ k b bs. refl) (at .inv) inside)))
 
@@ -51,9 +49,7 @@ bid-end-requires c κs =
     let w = a .words .now in
     let at = c .before .before .before .before .before .loop in
     let inside = c .before .before .before .before .loop-test .taken in
-    let good = bid-right pathLimit w (at .k) (at .place) (at .inv .walk) inside in
-    let fits = fits-list pathLimit w (at .place) good in
-    fits
+    bid-whole w (at .k) (at .place) (at .inv .walk) inside
 
 loop-less : tie.Need-loop-less Inv-loop μ-loop
 loop-less c =
@@ -61,8 +57,7 @@ loop-less c =
     let w = a .words .now in
     let at = c .before .before .before .before .before .before .loop in
     let inside = c .before .before .before .before .before .loop-test .taken in
-    let good = bid-right pathLimit w (at .k) (at .place) (at .inv .walk) inside in
-    let fits = fits-list pathLimit w (at .place) good in
+    let fits = bid-whole w (at .k) (at .place) (at .inv .walk) inside in
     omega (arith, fits, c .bid-end .ensures)
 
 loop-again : tie.Need-loop-again Inv-loop μ-loop

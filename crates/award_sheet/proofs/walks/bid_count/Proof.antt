@@ -2,9 +2,8 @@ use native.Mathlib.Omega.{arith}
 use Prim.Native.Nat.{_-_}
 use lib.ListN.{length}
 use Rattle.market.specs.Limits.{pathLimit}
-use Rattle.bids.proofs.BidLaws.{fits-list}
-use Rattle.bids.proofs.Walk.{Walk, walk-start, bid-right, bid-below}
-use Rattle.award_sheet.proofs.WalkLaws.{bids-counted, bids-on}
+use Rattle.bids.proofs.Walk.{Walk, walk-start, bid-below}
+use Rattle.award_sheet.proofs.WalkLaws.{bid-whole, bids-counted, bids-on}
 use Rattle.award_sheet.proofs.walks.bid_count.Statement.{statement}
 use Rattle.award_sheet.proofs.walks.bid_count.Tie as tie
 
@@ -34,9 +33,7 @@ bid-end-requires c κs =
     let w = a .words .now in
     let at = c .before .loop in
     let inside = c .loop-test .taken in
-    let good = bid-right pathLimit w (at .k) (at .place) (at .inv) inside in
-    let fits = fits-list pathLimit w (at .place) good in
-    fits
+    bid-whole w (at .k) (at .place) (at .inv) inside
 
 loop-less : tie.Need-loop-less Inv-loop μ-loop
 loop-less c =
@@ -44,8 +41,7 @@ loop-less c =
     let w = a .words .now in
     let at = c .before .before .loop in
     let inside = c .before .loop-test .taken in
-    let good = bid-right pathLimit w (at .k) (at .place) (at .inv) inside in
-    let fits = fits-list pathLimit w (at .place) good in
+    let fits = bid-whole w (at .k) (at .place) (at .inv) inside in
     omega (arith, fits, c .bid-end .ensures)
 
 loop-again : tie.Need-loop-again Inv-loop μ-loop

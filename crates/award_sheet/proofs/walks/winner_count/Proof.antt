@@ -2,9 +2,8 @@ use native.Mathlib.Omega.{arith}
 use Prim.Native.Nat.{_-_}
 use lib.ListN.{length}
 use Rattle.market.specs.Limits.{pathLimit}
-use Rattle.bids.proofs.BidLaws.{fits-list}
-use Rattle.bids.proofs.Walk.{bid-right, bid-below}
-use Rattle.award_sheet.proofs.WalkLaws.{WinnersTo, one-most, winners-start, winners-done, winners-on}
+use Rattle.bids.proofs.Walk.{bid-below}
+use Rattle.award_sheet.proofs.WalkLaws.{bid-whole, WinnersTo, one-most, winners-start, winners-done, winners-on}
 use Rattle.award_sheet.proofs.walks.winner_count.Statement.{statement}
 use Rattle.award_sheet.proofs.walks.winner_count.Tie as tie
 
@@ -55,9 +54,7 @@ bid-end-requires c κs =
     let w = a .words .now in
     let at = c .before .before .loop in
     let inside = c .before .loop-test .taken in
-    let good = bid-right pathLimit w (at .k) (at .place) (at .inv .walk) inside in
-    let fits = fits-list pathLimit w (at .place) good in
-    fits
+    bid-whole w (at .k) (at .place) (at .inv .walk) inside
 
 loop-less : tie.Need-loop-less Inv-loop μ-loop
 loop-less c =
@@ -65,8 +62,7 @@ loop-less c =
     let w = a .words .now in
     let at = c .before .before .before .loop in
     let inside = c .before .before .loop-test .taken in
-    let good = bid-right pathLimit w (at .k) (at .place) (at .inv .walk) inside in
-    let fits = fits-list pathLimit w (at .place) good in
+    let fits = bid-whole w (at .k) (at .place) (at .inv .walk) inside in
     omega (arith, fits, c .bid-end .ensures)
 
 loop-again : tie.Need-loop-again Inv-loop μ-loop
