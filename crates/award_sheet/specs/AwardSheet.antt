@@ -25,6 +25,10 @@ countLine word n = line (word ∷ decimal n ∷ [])
 abbrev pub titleLine : List ℕ
 titleLine = line (words.titleWord ∷ words.releaseWord ∷ decimal release ∷ words.rulesWord ∷ decimal ruleEdition ∷ [])
 
+-- and how many rounds there are
+abbrev pub titleText : ℕ → List ℕ
+titleText rounds = titleLine ++ countLine words.roundsWord rounds
+
 -- ---- A round, of these bids and with these answers
 
 -- "1 3 0 admitted 850000"
@@ -114,14 +118,15 @@ abbrev pub bidderLines : Book → List ℕ → List ℕ
 bidderLines b [] = []
 bidderLines b (number ∷ numbers) = bidderLine number (bidderOf b number) ++ bidderLines b numbers
 
+-- each after their count
+abbrev pub biddersText : Book → List ℕ → List ℕ
+biddersText b listed = countLine (partWord Bidders) (length listed) ++ bidderLines b listed
+
 -- ---- The sheet, of these rounds, and of the book after them with the bidders listed
 
 unfoldable pub awardText : List RoundMade → Book → List ℕ → List ℕ
 awardText rounds b listed =
-    titleLine
-    ++ countLine words.roundsWord (length rounds)
-    ++ roundsText (b .«path_count») rounds
-    ++ (countLine (partWord Bidders) (length listed) ++ bidderLines b listed)
+    titleText (length rounds) ++ roundsText (b .«path_count») rounds ++ biddersText b listed
 
 -- ---- Refusals
 

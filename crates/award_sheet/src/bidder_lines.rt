@@ -4,14 +4,11 @@ use market::book::Bidder;
 use market::book::Book;
 ghost use mathlib.Core.Path.{_≡_};
 ghost use mathlib.Core.Bool.{true};
-ghost use mathlib.Core.List.{_++_};
 ghost use Prim.Native.Nat.{_+_, _≤_};
 ghost use lib.ListN.{length};
 ghost use Rattle.market.specs.Books.{every};
 ghost use Rattle.text.specs.Put.{putAt};
-ghost use Rattle.lines.specs.Lines.{partWord};
-ghost use Rattle.lines.specs.declared.part.Part.the-variants.{Bidders};
-ghost use Rattle.award_sheet.specs.AwardSheet.{isBidder, countLine, bidderLine, bidderLines};
+ghost use Rattle.award_sheet.specs.AwardSheet.{isBidder, bidderLine, bidderLines, biddersText};
 
 // The line of a bidder: number, cash, applied, letter, hold, owed.
 fn put_bidder_line(out: &mut [u8], at: usize, number: u32, bidder: Bidder) -> usize
@@ -46,9 +43,9 @@ fn put_bidder_lines(out: &mut [u8], at: usize, book: Book, listed: &[u32]) -> us
 // How many bidders are listed, and their lines.
 pub fn put_bidders(out: &mut [u8], at: usize, book: Book, listed: &[u32]) -> usize
     requires { ⌜ every isBidder (now listed) ≡ true ⌝ }
-    requires { ⌜ at + length (countLine (partWord Bidders) (length (now listed)) ++ bidderLines book (now listed)) ≤ length (now out) ⌝ }
-    ensures place { λ r. ⌜ r ≡ at + length (countLine (partWord Bidders) (length (now (listed .entry))) ++ bidderLines book (now (listed .entry))) ⌝ }
-    ensures bytes { λ _. ⌜ now (out .exit) ≡ putAt (now (out .entry)) at (countLine (partWord Bidders) (length (now (listed .entry))) ++ bidderLines book (now (listed .entry))) ⌝ }
+    requires { ⌜ at + length (biddersText book (now listed)) ≤ length (now out) ⌝ }
+    ensures place { λ r. ⌜ r ≡ at + length (biddersText book (now (listed .entry))) ⌝ }
+    ensures bytes { λ _. ⌜ now (out .exit) ≡ putAt (now (out .entry)) at (biddersText book (now (listed .entry))) ⌝ }
 {
     let next = fields::put_count(out, at, b"bidders", listed.len() as u64);
     put_bidder_lines(out, next, book, listed)

@@ -2,12 +2,10 @@
 use crate::fields;
 use market::engine::Engine;
 ghost use mathlib.Core.Path.{_≡_};
-ghost use mathlib.Core.List.{_++_};
 ghost use Prim.Native.Nat.{_+_, _≤_};
 ghost use lib.ListN.{length};
 ghost use Rattle.text.specs.Put.{putAt};
-ghost use Rattle.award_sheet.specs.AwardSheet.{countLine, titleLine};
-ghost use Rattle.award_sheet.specs.Phrases.{roundsWord};
+ghost use Rattle.award_sheet.specs.AwardSheet.{titleLine, titleText};
 
 // The title, with the engine's own release and rule edition.
 fn put_title_line(out: &mut [u8], at: usize) -> usize
@@ -22,9 +20,9 @@ fn put_title_line(out: &mut [u8], at: usize) -> usize
 
 // The title, and the number of rounds.
 pub fn put_title(out: &mut [u8], at: usize, rounds: usize) -> usize
-    requires { ⌜ at + length (titleLine ++ countLine roundsWord rounds) ≤ length (now out) ⌝ }
-    ensures place { λ r. ⌜ r ≡ at + length (titleLine ++ countLine roundsWord rounds) ⌝ }
-    ensures bytes { λ _. ⌜ now (out .exit) ≡ putAt (now (out .entry)) at (titleLine ++ countLine roundsWord rounds) ⌝ }
+    requires { ⌜ at + length (titleText rounds) ≤ length (now out) ⌝ }
+    ensures place { λ r. ⌜ r ≡ at + length (titleText rounds) ⌝ }
+    ensures bytes { λ _. ⌜ now (out .exit) ≡ putAt (now (out .entry)) at (titleText rounds) ⌝ }
 {
     let next = put_title_line(out, at);
     fields::put_count(out, next, b"rounds", rounds as u64)

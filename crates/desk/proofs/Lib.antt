@@ -1,5 +1,5 @@
--- The paper's sheet, how many bids a round can have, and how long an award sheet is at most.
-pub mod AwardLength
-pub mod FewBids
+-- The paper's sheet, and what comes of a sheet that has the form.
+pub mod OutputLaws
 pub mod PaperSheet
-pub mod RoundLength
+pub mod RunLaws
+pub mod SheetRun

@@ -21,7 +21,7 @@ pub const LONG: u8 = 76;
 
 const EXPORT: u8 = 88;
 
-const IMPORT: u8 = 77;
+pub const IMPORT: u8 = 77;
 
 // How many bidders there are.
 const BIDDERS: u64 = Engine::BIDDERS as u64;

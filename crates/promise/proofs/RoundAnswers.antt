@@ -158,7 +158,7 @@ module _ (b : Book) (words : List ℕ) (l : Lent) (none : answerNumber (round b 
       list-taken (l .results) refusal
       (laid (l .results) (pathRows (offeredNow b) (soldNow b bids) (pricesNow b bids) (b .«path_count»))) cleared
 
-  same-paths : after .«path_count» ≡ b .«path_count»
+  pub same-paths : after .«path_count» ≡ b .«path_count»
   unfolding round
   same-paths = ap (λ (o : Outcome). o .book .«path_count») (is-taken b refusal taken cleared)
 

@@ -4,6 +4,7 @@ pub mod CountedLaws
 pub mod FormLaws
 pub mod LineLaws
 pub mod PlaceLaws
+pub mod RightLaws
 pub mod SectionLaws
 pub mod SheetLaws
 pub mod Sorts

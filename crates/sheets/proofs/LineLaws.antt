@@ -15,12 +15,14 @@ use Rattle.market.specs.declared.book.Direction.{Direction}
 use Rattle.market.specs.declared.book.Direction.the-variants.{Export, Import}
 use Rattle.text.specs.Decimal.{decimal}
 use Rattle.lines.proofs.FieldLaws.{Front, front-both, fieldText, field-written, field-read, field-some, numbersText, line-text, text-some, both-some, both-stand, within, used-written, said-written, numbers-read}
-use Rattle.lines.specs.Fields.{space, newline, wordTop, amountTop, startsWith, spaced, fieldAt, both, numbersUsed, numbersSaid, line}
+use Rattle.lines.specs.Fields.{space, newline, wordTop, amountTop, startsWith, spaced, fieldAt, both, numbersUsed, numbersSaid}
 use Rattle.lines.specs.Lines.{behind, partWord, countPlace, countUsed, countSaid, bidderUsed, directionByte, isDirection, routeUsed, pathUsed}
 use Rattle.lines.specs.declared.fields.Field.{Field}
 use Rattle.lines.specs.declared.part.Part.{Part}
 use Rattle.sheets.specs.Reading.{bidderOf, bidderAt, importIf, directionOf, pathOf, routeIn, afterNumber, pathAt}
-use Rattle.sheets.specs.Sheet.{BidderLine, PathLine, countLine, bidderLine, pathLine, fits, fitsAmount, rightPath}
+use Rattle.sheets.specs.declared.rows.BidderLine.{BidderLine}
+use Rattle.sheets.specs.declared.rows.PathLine.{PathLine}
+use Rattle.sheets.specs.Sheet.{countLine, bidderLine, pathLine, fits, fitsAmount, rightPath}
 
 pub or-left : (s : Bool) → (s || false) ≡ true → s ≡ true
 or-left true h = refl

@@ -12,7 +12,7 @@ use Rattle.sheets.specs.Reading.{partAt, behindPart, atBidders, atPaths,
 use Rattle.sheets.specs.declared.form.Found.{Found}
 
 module _ (bytes : List ℕ) (found : Found) (p : PlacesAre bytes (titleUsed bytes) found) where
-  paths-place : drop (found .paths) bytes ≡ atPaths bytes
+  pub paths-place : drop (found .paths) bytes ≡ atPaths bytes
   paths-place =
       ap (λ (n : ℕ). drop n bytes) (p .paths) ∙ sym (drop-drop (sectionAt Bidders (atBidders bytes) .used) (titleUsed bytes) bytes)
 

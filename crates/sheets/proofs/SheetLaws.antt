@@ -21,7 +21,9 @@ use Rattle.lines.specs.declared.part.Part.{Part}
 use Rattle.lines.specs.declared.part.Part.the-variants.{Bidders, Paths, Bids}
 use Rattle.sheets.specs.Form.{sectionAt, sectionStands, partsOf, ifStands, formFrom, kindIn, formOf}
 use Rattle.sheets.specs.Reading.{bidderAt, pathAt, bidIn, sectionSays, behindPart, roundsAt, atBidders, atPaths, atRounds, daysIn, sheetIn}
-use Rattle.sheets.specs.Sheet.{BidderLine, PathLine, Sheet, roundsOf, titleLine, countLine, bidderLines, pathLines, bidSection, bidSections, sheetText, fits, fitsAmount, rightBidders, rightPath, rightBid, rightSection, rightSheet}
+use Rattle.sheets.specs.declared.rows.BidderLine.{BidderLine}
+use Rattle.sheets.specs.declared.rows.PathLine.{PathLine}
+use Rattle.sheets.specs.Sheet.{Sheet, roundsOf, titleLine, countLine, bidderLines, pathLines, bidSection, bidSections, sheetText, fits, fitsAmount, rightBidders, rightPath, rightBid, rightSection, rightSheet}
 use Rattle.sheets.specs.declared.form.Form.{Form}
 use Rattle.sheets.specs.declared.form.Form.the-variants.{Right, Faulty}
 use Rattle.sheets.specs.declared.form.Read.{Read}
@@ -38,7 +40,7 @@ isRight Right = true
 isRight (Faulty line) = false
 
 -- what follows is right only where something stands
-stands-right : (t : Bool) (line : ℕ) (rest : Form) → ifStands t line rest ≡ Right → (t ≡ true) × (rest ≡ Right)
+pub stands-right : (t : Bool) (line : ℕ) (rest : Form) → ifStands t line rest ≡ Right → (t ≡ true) × (rest ≡ Right)
 stands-right true line rest h = (refl, h)
 stands-right false line rest h = absurd (false≢true (ap isRight h))
 
@@ -80,7 +82,7 @@ bidders-same xs = ap (λ (l : List ℕ). countLine Bidders (length xs) ++ l) (bi
 paths-same : (ps : List PathLine) → sectionText pathSort ps ≡ pathSection ps
 paths-same ps = ap (λ (l : List ℕ). countLine Paths (length ps) ++ l) (paths-text ps 0)
 
-bids-same : (bids : List Bid) → sectionText bidSort bids ≡ bidSection bids
+pub bids-same : (bids : List Bid) → sectionText bidSort bids ≡ bidSection bids
 bids-same bids = ap (λ (l : List ℕ). countLine Bids (length bids) ++ l) (bids-text bids 0)
 
 -- ---- Rounds
@@ -308,7 +310,7 @@ module _ (text : List ℕ) (form : formOf text ≡ Right) where
   unfolding formOf
   outer = stands-right (leb (length text) sheetBytes) 0 (ifStands (leb 1 (titleUsed text)) 1 (formFrom (partsOf (kindIn text)) 2 (atBidders text))) form
 
-  inner : (leb 1 (titleUsed text) ≡ true) × (formFrom (partsOf (kindIn text)) 2 (atBidders text) ≡ Right)
+  pub inner : (leb 1 (titleUsed text) ≡ true) × (formFrom (partsOf (kindIn text)) 2 (atBidders text) ≡ Right)
   inner = stands-right (leb 1 (titleUsed text)) 1 (formFrom (partsOf (kindIn text)) 2 (atBidders text)) (outer .1)
 
   title : TitleRead text
@@ -317,7 +319,7 @@ module _ (text : List ℕ) (form : formOf text ≡ Right) where
   abbrev second : ℕ
   second = 2 + sectionAt Bidders (atBidders text) .lines
 
-  abbrev third : ℕ
+  abbrev pub third : ℕ
   third = second + sectionAt Paths (atPaths text) .lines
 
   abbrev later : List Part
@@ -328,10 +330,10 @@ module _ (text : List ℕ) (form : formOf text ≡ Right) where
       stands-right (sectionStands Bidders (atBidders text)) second (formFrom (Paths ∷ later) second (atPaths text))
       (ap (λ (parts : List Part). formFrom parts 2 (atBidders text)) (sym (parts-are (kindIn text))) ∙ inner .1)
 
-  from-paths : (sectionStands Paths (atPaths text) ≡ true) × (formFrom later third (atRounds text) ≡ Right)
+  pub from-paths : (sectionStands Paths (atPaths text) ≡ true) × (formFrom later third (atRounds text) ≡ Right)
   from-paths = stands-right (sectionStands Paths (atPaths text)) third (formFrom later third (atRounds text)) (from-bidders .1)
 
-  bidders : SectionRead bidderSort (atBidders text)
+  pub bidders : SectionRead bidderSort (atBidders text)
   bidders = section-read bidderSort bidder-in bidder-out (atBidders text) (from-bidders .0)
 
   paths : SectionRead pathSort (atPaths text)

@@ -15,7 +15,9 @@ use Rattle.lines.specs.Fields.{newline, wordTop}
 use Rattle.lines.specs.Lines.{lineAt}
 use Rattle.lines.specs.declared.part.Part.the-variants.{Bidders, Paths, Bids}
 use Rattle.sheets.specs.Reading.{bidderAt, pathAt, bidIn}
-use Rattle.sheets.specs.Sheet.{BidderLine, PathLine, bidderLine, pathLine, bidLine, bidderLines, pathLines, bidLines, rightBidders, rightPath, rightBid}
+use Rattle.sheets.specs.declared.rows.BidderLine.{BidderLine}
+use Rattle.sheets.specs.declared.rows.PathLine.{PathLine}
+use Rattle.sheets.specs.Sheet.{bidderLine, pathLine, bidLine, bidderLines, pathLines, bidLines, rightBidders, rightPath, rightBid}
 use Rattle.sheets.proofs.BidLineLaws.{bid-some, bid-written, bid-again, bid-line-read}
 use Rattle.sheets.proofs.LineLaws.{rightBidder, bidder-number, bidder-again, bidder-written, bidder-read, path-some, path-again, path-written, path-read}
 use Rattle.sheets.proofs.SectionLaws.{Sort, writeAll, rightAll, Written, Stands}

@@ -99,6 +99,15 @@ section-words bids right =
     (ap (λ (n : ℕ). drop n (bidSection bids)) (count-written Bids (length bids) lines few) ∙ drop-append-seam count lines)
     ∙ bids-numbers spare bids (right-true (fits (length bids)) (every rightBid bids) right)
 
+-- they are no more than its bytes
+numbers-few : (k : ℕ) (text : List ℕ) → length (numbersIn k text) ≤ k
+numbers-few zero text = omega arith
+numbers-few (suc k) [] = omega arith
+numbers-few (suc k) (c ∷ cs) = omega (arith, numbers-few k (drop (numberAt (c ∷ cs) .digits + 1) (c ∷ cs)))
+
+pub words-few : (section : List ℕ) → length (wordsOf section) ≤ length section
+words-few section = numbers-few (length section) (drop (countUsed Bids section) section)
+
 -- a number is no longer than the text
 pub digits-within : (text : List ℕ) → numberAt text .digits ≤ length text
 digits-within text = go (rightDigits ds)

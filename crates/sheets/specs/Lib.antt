@@ -2,4 +2,5 @@
 pub mod Form
 pub mod Reading
 pub mod Sheet
+pub mod Slots
 pub mod Words

@@ -12,7 +12,9 @@ use Rattle.lines.specs.Lines.{daysPlace, titleUsed, countUsed, countSaid, direc
 use Rattle.lines.specs.declared.part.Part.{Part}
 use Rattle.lines.specs.declared.part.Part.the-variants.{Bidders, Paths, Bids}
 use Rattle.sheets.specs.Form.{sectionAt, kindIn}
-use Rattle.sheets.specs.Sheet.{BidderLine, PathLine, Sheet, roundsOf}
+use Rattle.sheets.specs.declared.rows.BidderLine.{BidderLine}
+use Rattle.sheets.specs.declared.rows.PathLine.{PathLine}
+use Rattle.sheets.specs.Sheet.{Sheet, roundsOf}
 
 -- ---- Lines
 

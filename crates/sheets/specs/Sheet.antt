@@ -6,7 +6,6 @@ use lib.Dec.{leb, ltb, eqb}
 use lib.ListN.{length}
 use Rattle.market.specs.Books.{every}
 use Rattle.market.specs.Limits.{bidderLimit}
-use Rattle.market.specs.declared.book.Direction.{Direction}
 use Rattle.market.specs.declared.book.Kind.{Kind}
 use Rattle.market.specs.declared.book.Kind.the-variants.{Short, Long}
 use Rattle.text.specs.Decimal.{decimal}
@@ -16,25 +15,13 @@ use Rattle.lines.specs.Fields.{line, numbersLine, wordTop, amountTop}
 use Rattle.lines.specs.Lines.{titleWord, kindByte, partWord, directionByte}
 use Rattle.lines.specs.declared.part.Part.{Part}
 use Rattle.lines.specs.declared.part.Part.the-variants.{Bidders, Paths, Bids}
+use Rattle.sheets.specs.declared.rows.BidderLine.{BidderLine}
+use Rattle.sheets.specs.declared.rows.PathLine.{PathLine}
 
 -- ---- What it says
 
--- "bidder 0 to 31, cash, letter"
-pub record BidderLine : Type 0 where
-  pub bidder : ℕ
-  pub cash : ℕ
-  pub letter : ℕ
-
--- "direction, zone, base, FUL, A, B"
-pub record PathLine : Type 0 where
-  pub direction : Direction
-  pub zone : ℕ
-  pub base : ℕ
-  pub upper : ℕ
-  pub first : ℕ
-  pub second : ℕ
-
--- "kind, first and last day", the sections, and of bids as many as the kind has rounds
+-- "kind, first and last day", the sections, and of bids as many as the kind has rounds; what a line of a bidder or of a path says is
+-- declared with the code
 pub record Sheet : Type 0 where
   pub kind : Kind
   pub first : ℕ

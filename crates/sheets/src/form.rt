@@ -194,7 +194,7 @@ fn sections_form(kind: Kind, bytes: &[u8], at: usize, line: u32) -> Found
 }
 
 // The kind in a title.
-fn kind_in(bytes: &[u8]) -> Kind
+pub fn kind_in(bytes: &[u8]) -> Kind
     requires { ⌜ 6 ≤ length (now bytes) ⌝ }
     ensures { λ r. ⌜ r ≡ rules.kindIn (now (bytes .entry)) ⌝ }
 {

@@ -1,0 +1,36 @@
+-- An award sheet is its title, its rounds and its bidders, one behind another.
+use mathlib.Core.Path.{_≡_, _∙_, ap}
+use mathlib.Core.List.{List, [], _∷_, _++_, append-assoc, append-nil}
+use Prim.Native.Nat.{ℕ, _+_, _≤_}
+use native.Mathlib.Omega.{arith}
+use lib.ListN.{length}
+use Rattle.market.specs.declared.book.Book.{Book}
+use Rattle.text.specs.Put.{putAt}
+use Rattle.award_sheet.proofs.PutLaws.{WrittenTo, written-none, written-all}
+use Rattle.award_sheet.specs.AwardSheet.{RoundMade, titleText, roundText, roundsText, biddersText, awardText}
+
+pub award-pieces : (rounds : List RoundMade) (b : Book) (listed : List ℕ) → awardText rounds b listed ≡ titleText (length rounds) ++ (roundsText (b .«path_count») rounds ++ biddersText b listed)
+unfolding awardText
+award-pieces rounds b listed =
+    append-assoc (titleText (length rounds)) (roundsText (b .«path_count») rounds) (biddersText b listed)
+
+-- one round
+pub one-round : (paths : ℕ) (r : RoundMade) → roundsText paths (r ∷ []) ≡ roundText paths r
+one-round paths r = append-nil (roundText paths r)
+
+pub one-pieces : (r : RoundMade) (b : Book) (listed : List ℕ) → awardText (r ∷ []) b listed ≡ titleText 1 ++ (roundText (b .«path_count») r ++ biddersText b listed)
+one-pieces r b listed =
+    award-pieces (r ∷ []) b listed
+    ∙ ap (λ (l : List ℕ). titleText 1 ++ (l ++ biddersText b listed)) (one-round (b .«path_count») r)
+
+-- two rounds
+pub two-rounds : (paths : ℕ) (r s : RoundMade) → roundsText paths (r ∷ s ∷ []) ≡ roundText paths r ++ roundText paths s
+two-rounds paths r s = ap (λ (l : List ℕ). roundText paths r ++ l) (one-round paths s)
+
+-- ---- At the front of a buffer
+
+pub front-none : (before whole : List ℕ) → length whole ≤ length before → WrittenTo before 0 whole whole 0 before
+front-none before whole room = written-none before 0 whole (omega (arith, room))
+
+pub front-all : {before whole rest : List ℕ} {place : ℕ} {out : List ℕ} → WrittenTo before 0 whole rest place out → {r : ℕ} {next : List ℕ} → r ≡ place + length rest → next ≡ putAt out place rest → (r ≡ length whole) × (next ≡ putAt before 0 whole)
+front-all to is put = let all = written-all to is put in (omega (arith, all .0), all .1)

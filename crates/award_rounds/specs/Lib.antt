@@ -1,0 +1,2 @@
+-- What is written of a round.
+pub mod Rounds

@@ -1,0 +1,20 @@
+-- A round as it is written: the words of its bids, and its answers for bids and for paths.
+use mathlib.Core.Path.{_≡_}
+use mathlib.Core.Bool.{true}
+use mathlib.Core.List.{List}
+use Prim.Native.Nat.{ℕ, _≤_}
+use lib.ListN.{length}
+use Rattle.market.specs.Limits.{pathLimit, bidListWords, bidAnswerWords, pathAnswerWords}
+use Rattle.bids.proofs.Walk.{soundList}
+use Rattle.bids.specs.Bids.{bidsOf}
+use Rattle.award_sheet.specs.AwardSheet.{RoundMade}
+
+abbrev pub made : List ℕ → List ℕ → List ℕ → RoundMade
+made bids answers results = record { bids = bidsOf bids; answers = answers; results = results }
+
+-- what an answered round's lists are
+pub record Answered (bids answers results : List ℕ) : Type 0 where
+  pub short : length bids ≤ bidListWords
+  pub sound : soundList pathLimit bids ≡ true
+  pub answers-long : bidAnswerWords ≤ length answers
+  pub results-long : pathAnswerWords ≤ length results

@@ -1,0 +1,218 @@
+-- A sheet that has the form: its calls up to open, the words of its rounds, and its output.
+use mathlib.Core.Path.{_≡_, refl, sym, _∙_, ap, ap₂, subst}
+use mathlib.Core.Bool.{Bool, true, _&&_}
+use mathlib.Core.List.{List, [], _∷_, _++_, map}
+use Prim.Native.Nat.{ℕ, zero, suc, _+_, _≤_}
+use native.Mathlib.Omega.{arith}
+use lib.ListN.{length, getD, take, drop, length-take, length-drop, length-replicate}
+use lib.Seq.{take-append-seam, length-take-le}
+use Rattle.market.proofs.Tables.{is-taken}
+use Rattle.market.specs.Answers.{answerNumber, answered, firstOf}
+use Rattle.market.specs.Books.{cents, dayNumber, every}
+use Rattle.market.specs.Fresh.{fresh, freshRefusals, freshBook, noBook}
+use Rattle.market.specs.Limits.{bidderLimit, registerWords}
+use Rattle.market.specs.declared.answer.Outcome.{Outcome}
+use Rattle.market.specs.declared.book.Book.{Book}
+use Rattle.market.specs.declared.book.Kind.{Kind}
+use Rattle.market.specs.declared.book.Kind.the-variants.{Short, Long}
+use Rattle.market.specs.declared.book.Period.{Period}
+use Rattle.text.specs.Put.{putAt}
+use Rattle.funding.specs.declared.Funds.{Funds}
+use Rattle.funding.specs.declared.Funds.the-variants.{Cash, Letter}
+use Rattle.opening.specs.Open.{«open»}
+use Rattle.keeping.proofs.KeepFunding.{deposit-keeps}
+use Rattle.keeping.proofs.KeepOpen.{open-keeps}
+use Rattle.keeping.proofs.Start.{fresh-state}
+use Rattle.keeping.specs.State.{State}
+use Rattle.bids.specs.Encoding.{encoded}
+use Rattle.lines.specs.declared.part.Part.the-variants.{Bidders, Paths, Bids}
+use Rattle.sheets.proofs.WordLaws.{words-few}
+use Rattle.sheets.proofs.RightLaws.{first-rises, first-words, second-words, bidders-rise, few-bidders}
+use Rattle.sheets.specs.Form.{formOf, kindIn}
+use Rattle.sheets.specs.Reading.{sheetIn, bidderAt, pathAt, sectionSays, partAt, behindPart, roundsAt, atBidders, atPaths, atRounds, daysIn}
+use Rattle.sheets.specs.Sheet.{roundsOf, rightBidders}
+use Rattle.sheets.specs.Words.{wordsOf}
+use Rattle.sheets.specs.declared.form.Form.the-variants.{Right}
+use Rattle.sheets.specs.declared.rows.BidderLine.{BidderLine}
+use Rattle.sheets.specs.declared.rows.PathLine.{PathLine}
+use Rattle.preparing.proofs.PreparingLaws.{none-refused}
+use Rattle.preparing.specs.Preparing.{unlessRefused, andThen, depositIf, lineDeposits, deposits, routesOf, quantitiesOf, emptyRegister, opened}
+use Rattle.preparing.specs.PreparedSlots.{isListed}
+use Rattle.award_sheet.specs.AwardSheet.{isBidder, refusedText}
+use Rattle.round_output.specs.Rounds.{Progress, roundsFrom, begun, ended, roundOf, outputFrom}
+use Rattle.desk.specs.Desk.{sheetOutput}
+use Rattle.round_output.proofs.RoundDone.{written-refused}
+use Rattle.round_output.proofs.TwoRounds.{stopped, goes-on}
+
+-- ---- The state that open leaves
+
+-- whether or not the calls before are answered, the book is sound
+next-keeps : (n : ℕ) (done next : Outcome) (words : List ℕ) → State (done .book) words → State (next .book) words → State (unlessRefused n done next .book) words
+next-keeps zero done next words a b = b
+next-keeps (suc n) done next words a b = a
+
+deposit-if-keeps : (amount : ℕ) (b : Book) (words : List ℕ) (bidder : ℕ) (to : Funds) → State b words → State (depositIf amount b bidder to .book) words
+deposit-if-keeps zero b words bidder to state = state
+deposit-if-keeps (suc n) b words bidder to state = deposit-keeps b words bidder to (cents (suc n)) state
+
+deposits-keep : (b : Book) (words : List ℕ) (xs : List BidderLine) → State b words → State (deposits b xs .book) words
+deposits-keep b words [] state = state
+deposits-keep b words (x ∷ xs) state =
+    let cash = depositIf (x .cash) b (x .bidder) Cash in
+    let letter = depositIf (x .letter) (cash .book) (x .bidder) Letter in
+    let first = deposit-if-keeps (x .cash) b words (x .bidder) Cash state in
+    let line = next-keeps (answerNumber (cash .answer)) cash letter words first (deposit-if-keeps (x .letter) (cash .book) words (x .bidder) Letter first) in
+    next-keeps (answerNumber (lineDeposits b x .answer)) (lineDeposits b x) (deposits (lineDeposits b x .book) xs) words line
+    (deposits-keep (lineDeposits b x .book) words xs line)
+
+module _ (kind : Kind) (period : Period) (bidders : List BidderLine) (paths : List PathLine) where
+  abbrev made : Outcome
+  made = fresh (routesOf paths) (length paths)
+
+  abbrev funded : Outcome
+  funded = deposits (made .book) bidders
+
+  abbrev rest : Outcome
+  rest = andThen funded (λ after. «open» after emptyRegister kind period (quantitiesOf paths))
+
+  abbrev refusal : ℕ
+  refusal = firstOf (freshRefusals (routesOf paths) (length paths))
+
+  made-state : refusal ≡ 0 → State (made .book) emptyRegister
+  unfolding fresh
+  made-state none =
+      subst (λ (b : Book). State b emptyRegister)
+      (sym (ap (λ (o : Outcome). o .book) (is-taken noBook refusal (answered (freshBook (routesOf paths) (length paths))) none)))
+      (fresh-state (routesOf paths) (length paths) emptyRegister none (omega (arith, length-replicate {A = ℕ} registerWords 0)))
+
+  made-answered : answerNumber (made .answer) ≡ 0 → refusal ≡ 0
+  unfolding fresh
+  made-answered none = none-refused noBook refusal (answered (freshBook (routesOf paths) (length paths))) none
+
+  opened-with : (n : ℕ) → n ≡ answerNumber (made .answer) → answerNumber (unlessRefused n made rest .answer) ≡ 0 → State (unlessRefused n made rest .book) emptyRegister
+  opened-with zero is none =
+      let state = deposits-keep (made .book) emptyRegister bidders (made-state (made-answered (sym is))) in
+      next-keeps (answerNumber (funded .answer)) funded («open» (funded .book) emptyRegister kind period (quantitiesOf paths)) emptyRegister state
+      (open-keeps (funded .book) emptyRegister kind period (quantitiesOf paths) state)
+  opened-with (suc n) is none = absurd (let bad : ⊥ = omega (arith, is, none) in bad)
+
+  pub opened-state : answerNumber (opened kind period bidders paths .answer) ≡ 0 → State (opened kind period bidders paths .book) emptyRegister
+  unfolding opened
+  opened-state none = opened-with (answerNumber (made .answer)) refl none
+
+-- ---- The output behind the calls up to open
+
+stays : (done : Progress) (rounds : List (List ℕ)) → (answerNumber (done .outcome .answer) ≡ 0 → ⊥) → roundsFrom done rounds ≡ done
+stays done [] some = refl
+stays done (r ∷ rs) some =
+    ap (λ (p : Progress). roundsFrom p rs)
+    (stopped (answerNumber (done .outcome .answer)) done (roundOf (done .outcome .book) (done .words) (done .rounds) r) some)
+    ∙ stays done rs some
+
+from-refused : (o : Outcome) (listed : List ℕ) (rounds : List (List ℕ)) → (answerNumber (o .answer) ≡ 0 → ⊥) → outputFrom o listed rounds ≡ refusedText (answerNumber (o .answer))
+unfolding outputFrom
+from-refused o listed rounds some =
+    ap (ended listed) (stays (begun o) rounds some) ∙ written-refused (answerNumber (o .answer)) listed (begun o) some
+
+from-answered : (o : Outcome) (listed r : List ℕ) (rs : List (List ℕ)) → answerNumber (o .answer) ≡ 0 → outputFrom o listed (r ∷ rs) ≡ outputFrom (answered (o .book)) listed (r ∷ rs)
+unfolding outputFrom
+from-answered o listed r rs none =
+    ap (λ (p : Progress). ended listed (roundsFrom p rs))
+    (goes-on (answerNumber (o .answer)) (begun o) (roundOf (o .book) emptyRegister [] r) none)
+
+-- ---- The bidders listed
+
+all-listed : (least : ℕ) (xs : List BidderLine) → rightBidders least xs ≡ true → every isListed xs ≡ true
+all-listed least [] right = refl
+all-listed least (x ∷ xs) right =
+    let first = first-rises least x xs right in
+    ap₂ _&&_ (first .1) (all-listed (x .bidder + 1) xs (first .2))
+
+numbers-listed : (xs : List BidderLine) → every isBidder (map (λ x. x .bidder) xs) ≡ every isListed xs
+numbers-listed [] = refl
+numbers-listed (x ∷ xs) = ap (λ (t : Bool). isListed x && t) (numbers-listed xs)
+
+numbers-length : (xs : List BidderLine) → length (map (λ x. x .bidder) xs) ≡ length xs
+numbers-length [] = refl
+numbers-length (x ∷ xs) = ap suc (numbers-length xs)
+
+-- ---- The sheet
+
+module _ (text : List ℕ) (form : formOf text ≡ Right) where
+  abbrev pub bidders : List BidderLine
+  bidders = sectionSays Bidders bidderAt (atBidders text)
+
+  abbrev pub paths : List PathLine
+  paths = sectionSays Paths pathAt (atPaths text)
+
+  abbrev pub period : Period
+  period = record { first = dayNumber (getD (daysIn text) 0 0); last = dayNumber (getD (daysIn text) 1 0) }
+
+  abbrev pub begins : Outcome
+  begins = opened (kindIn text) period bidders paths
+
+  abbrev pub listed : List ℕ
+  listed = map (λ x. x .bidder) bidders
+
+  abbrev firstWords : List ℕ
+  firstWords = wordsOf (partAt Bids (atRounds text))
+
+  abbrev secondWords : List ℕ
+  secondWords = wordsOf (behindPart Bids (atRounds text))
+
+  pub rows-right : every isListed bidders ≡ true
+  rows-right = all-listed 0 bidders (bidders-rise text form)
+
+  pub numbers-right : every isBidder listed ≡ true
+  numbers-right = numbers-listed bidders ∙ rows-right
+
+  pub numbers-few : length listed ≤ bidderLimit
+  numbers-few = omega (arith, numbers-length bidders, few-bidders text form)
+
+  -- the words of its rounds
+  short-rounds : kindIn text ≡ Short → map encoded (roundsAt (roundsOf (kindIn text)) (atRounds text)) ≡ firstWords ∷ []
+  short-rounds short =
+      ap (λ (k : Kind). map encoded (roundsAt (roundsOf k) (atRounds text))) short
+      ∙ ap (λ (w : List ℕ). w ∷ []) (sym (first-words text form))
+
+  long-rounds : kindIn text ≡ Long → map encoded (roundsAt (roundsOf (kindIn text)) (atRounds text)) ≡ firstWords ∷ secondWords ∷ []
+  long-rounds long =
+      ap (λ (k : Kind). map encoded (roundsAt (roundsOf k) (atRounds text))) long
+      ∙ ap₂ (λ (v w : List ℕ). v ∷ w ∷ []) (sym (first-words text form)) (sym (second-words text form long))
+
+  -- its output
+  whole-output : sheetOutput (sheetIn text) ≡ outputFrom begins listed (map encoded (roundsAt (roundsOf (kindIn text)) (atRounds text)))
+  unfolding sheetOutput sheetIn
+  whole-output = refl
+
+  pub sheet-refused : (answerNumber (begins .answer) ≡ 0 → ⊥) → sheetOutput (sheetIn text) ≡ refusedText (answerNumber (begins .answer))
+  sheet-refused some = whole-output ∙ from-refused begins listed (map encoded (roundsAt (roundsOf (kindIn text)) (atRounds text))) some
+
+  pub sheet-short : answerNumber (begins .answer) ≡ 0 → kindIn text ≡ Short → sheetOutput (sheetIn text) ≡ outputFrom (answered (begins .book)) listed (firstWords ∷ [])
+  sheet-short none short =
+      whole-output ∙ ap (outputFrom begins listed) (short-rounds short) ∙ from-answered begins listed firstWords [] none
+
+  pub sheet-long : answerNumber (begins .answer) ≡ 0 → kindIn text ≡ Long → sheetOutput (sheetIn text) ≡ outputFrom (answered (begins .book)) listed (firstWords ∷ secondWords ∷ [])
+  sheet-long none long =
+      whole-output ∙ ap (outputFrom begins listed) (long-rounds long) ∙ from-answered begins listed firstWords (secondWords ∷ []) none
+
+-- ---- Words at the front of a list
+
+pub words-taken : (before words : List ℕ) (count : ℕ) → count ≡ length words → take count (putAt before 0 words) ≡ words
+words-taken before words count is =
+    ap (λ (n : ℕ). take n (words ++ drop (0 + length words) before)) is ∙ take-append-seam words (drop (0 + length words) before)
+
+-- a section's words are few enough for a list that has room for a sheet
+pub words-within : (section out : List ℕ) (count : ℕ) → count ≡ length (wordsOf section) → length section ≤ length out → count ≤ length out
+words-within section out count is room = omega (arith, is, room, words-few section)
+
+-- and a part of a sheet is no longer than it
+pub part-within : (n k : ℕ) (bytes : List ℕ) → length (take n (drop k bytes)) ≤ length bytes
+part-within n k bytes = omega (arith, length-take n (drop k bytes), length-drop k bytes)
+
+pub rest-within : (k : ℕ) (bytes : List ℕ) → length (drop k bytes) ≤ length bytes
+rest-within k bytes = omega (arith, length-drop k bytes)
+
+-- words put at the front of a list, and those taken from it again
+pub counted-front : (out : List ℕ) (count : ℕ) → count ≤ length out → count ≡ length (take count out)
+counted-front out count within = sym (length-take-le count out within)

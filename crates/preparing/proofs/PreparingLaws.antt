@@ -1,0 +1,148 @@
+-- The calls with the lines in slots are those with the lines that a sheet has.
+use mathlib.Core.Path.{_≡_, refl, sym, _∙_, ap, ap₂}
+use mathlib.Core.Bool.{true, not}
+use mathlib.Core.List.{List, [], _∷_, _++_, map, map-append}
+use Prim.Native.Nat.{ℕ, zero, suc, _*_, _-_, _≤_}
+use native.Mathlib.Omega.{arith}
+use lib.ListN.{length, take, replicate, length-map}
+use lib.Seq.{length-take-le, take-all, take-at, take-append-seam}
+use borrow.Author.Tests.{not-false}
+use Rattle.market.proofs.Every.{every-append, every-take, every-replicate}
+use Rattle.market.proofs.SoundLaws.{count-within}
+use Rattle.market.proofs.Tables.{none-holds}
+use Rattle.market.specs.Answers.{_gives_, firstOf, answerNumber, answered, decided}
+use Rattle.market.specs.Books.{every}
+use Rattle.market.specs.Fresh.{soundRoute, freshRefusals, freshBook, noBook, fresh}
+use Rattle.market.specs.Limits.{bidderLimit, pathLimit, quantityWords}
+use Rattle.market.specs.Sound.{soundPathCount}
+use Rattle.market.specs.declared.answer.Outcome.{Outcome}
+use Rattle.market.specs.declared.book.Book.{Book}
+use Rattle.market.specs.declared.book.Kind.{Kind}
+use Rattle.market.specs.declared.book.Period.{Period}
+use Rattle.market.specs.declared.book.Route.{Route}
+use Rattle.opening.specs.Open.{«open»}
+use Rattle.sheets.specs.Slots.{filled, noBidderLine, noPathLine, bidderRows, pathRows}
+use Rattle.sheets.specs.declared.rows.BidderLine.{BidderLine}
+use Rattle.sheets.specs.declared.rows.PathLine.{PathLine}
+use Rattle.sheets.specs.declared.rows.PathRows.{PathRows}
+use Rattle.preparing.specs.Preparing.{unlessRefused, andThen, deposits, routeOf, routesOf, quantitiesOf, emptyRegister, opened}
+use Rattle.preparing.specs.PreparedSlots.{isListed, quantitiesIn, openWith, openedSlots}
+use Rattle.preparing.proofs.DepositLaws.{then-refused, then-next}
+use Rattle.preparing.proofs.SlotLaws.{quantities-length, quantities-append}
+
+-- ---- A fresh book that is answered has 16 paths at most
+
+pub none-refused : (b : Book) (n : ℕ) (taken : Outcome) → answerNumber (decided b n taken .answer) ≡ 0 → n ≡ 0
+none-refused b zero taken none = refl
+none-refused b (suc n) taken none = none
+
+fresh-few : (routes : List Route) (n : ℕ) → answerNumber (fresh routes n .answer) ≡ 0 → n ≤ pathLimit
+unfolding fresh
+fresh-few routes n none =
+    let rest = (not (every soundRoute (take n routes)) gives 25) ∷ [] in
+    let free = none-refused noBook (firstOf (freshRefusals routes n)) (answered (freshBook routes n)) none in
+    count-within n (not-false (soundPathCount n) (none-holds (not (soundPathCount n)) 25 rest tt free .0))
+
+-- ---- Open with the quantities counted
+
+pub counted-words : (words : List ℕ) (count : ℕ) → length words ≡ pathLimit * quantityWords → count ≤ pathLimit → count * quantityWords ≡ length (take (count * quantityWords) words)
+counted-words words count long few = sym (length-take-le (count * quantityWords) words (omega (arith, long)))
+
+module _ (b : Book) (kind : Kind) (period : Period) (paths : PathRows) (words : List ℕ) (are : words ≡ quantitiesOf (paths .lines)) where
+  pub open-is : (o : Outcome) → o ≡ «open» b emptyRegister kind period (take (paths .count * quantityWords) words) → o ≡ openWith b kind period paths
+  open-is o is = is ∙ ap (λ (l : List ℕ). «open» b emptyRegister kind period (take (paths .count * quantityWords) l)) are
+
+-- ---- Call by call, as `opened` makes them
+
+module _ (kind : Kind) (period : Period) (bidders : List BidderLine) (paths : PathRows) (routes : List Route) (are : routes ≡ map routeOf (paths .lines)) (made : Outcome) (from-routes : made ≡ fresh routes (paths .count)) (n : ℕ) (is : n ≡ answerNumber (made .answer)) where
+  abbrev book-made : Outcome
+  book-made = fresh (map routeOf (paths .lines)) (paths .count)
+
+  abbrev is-made : made ≡ book-made
+  is-made = from-routes ∙ ap (λ (l : List Route). fresh l (paths .count)) are
+
+  abbrev opens : Book → Outcome
+  opens b = openWith b kind period paths
+
+  abbrev funds : Book → Outcome
+  funds b = andThen (deposits b bidders) opens
+
+  pub book-refused : (n ≡ 0 → ⊥) → made ≡ openedSlots kind period bidders paths
+  unfolding openedSlots
+  book-refused some = then-refused made book-made is-made funds n is some
+
+  module _ (none : n ≡ 0) where
+    pub few-paths : paths .count ≤ pathLimit
+    few-paths = fresh-few (map routeOf (paths .lines)) (paths .count) (sym (is ∙ ap (λ (o : Outcome). answerNumber (o .answer)) is-made) ∙ none)
+
+    module _ (funded : Outcome) (is-funded : funded ≡ deposits (made .book) bidders) (m : ℕ) (is-m : m ≡ answerNumber (funded .answer)) where
+      pub deposits-refused : (m ≡ 0 → ⊥) → funded ≡ openedSlots kind period bidders paths
+      unfolding openedSlots
+      deposits-refused some =
+          then-refused funded (deposits (made .book) bidders) is-funded opens m is-m some
+          ∙ then-next made book-made is-made funds n is none
+
+      pub deposits-made : m ≡ 0 → opens (funded .book) ≡ openedSlots kind period bidders paths
+      unfolding openedSlots
+      deposits-made zeroth =
+          then-next funded (deposits (made .book) bidders) is-funded opens m is-m zeroth
+          ∙ then-next made book-made is-made funds n is none
+
+-- ---- Images of slots
+
+module _ {A B : Type 0} (f : A → B) where
+  pub map-take : (n : ℕ) (l : List A) → map f (take n l) ≡ take n (map f l)
+  map-take zero l = refl
+  map-take (suc n) [] = refl
+  map-take (suc n) (x ∷ l) = ap (f x ∷_) (map-take n l)
+
+  map-replicate : (n : ℕ) (x : A) → map f (replicate n x) ≡ replicate n (f x)
+  map-replicate zero x = refl
+  map-replicate (suc n) x = ap (f x ∷_) (map-replicate n x)
+
+  map-filled : (slots : ℕ) (none : A) (l : List A) → map f (filled slots none l) ≡ filled slots (f none) (map f l)
+  map-filled slots none l =
+      map-append f (take slots l) (replicate (slots - length l) none)
+      ∙ ap₂ _++_ (map-take slots l)
+      (map-replicate (slots - length l) none ∙ ap (λ (n : ℕ). replicate (slots - n) (f none)) (sym (length-map l f)))
+
+-- ---- Slots that are enough
+
+module _ {A : Type 0} (slots : ℕ) (none : A) (l : List A) (few : length l ≤ slots) where
+  filled-few : filled slots none l ≡ l ++ replicate (slots - length l) none
+  filled-few = ap (λ (front : List A). front ++ replicate (slots - length l) none) (take-all slots l few)
+
+  filled-taken : take (length l) (filled slots none l) ≡ l
+  filled-taken = ap (take (length l)) filled-few ∙ take-append-seam l (replicate (slots - length l) none)
+
+pub rows-taken : (xs : List BidderLine) → length xs ≤ bidderLimit → take (bidderRows xs .count) (bidderRows xs .lines) ≡ xs
+rows-taken xs few = filled-taken bidderLimit noBidderLine xs few
+
+pub rows-listed : (xs : List BidderLine) → every isListed xs ≡ true → every isListed (bidderRows xs .lines) ≡ true
+rows-listed xs listed =
+    every-append isListed (take bidderLimit xs) (replicate (bidderLimit - length xs) noBidderLine)
+    (every-take isListed bidderLimit xs listed)
+    (every-replicate isListed (bidderLimit - length xs) noBidderLine refl)
+
+quantities-filled : (ps : List PathLine) → length ps ≤ pathLimit → quantitiesIn (length ps) (filled pathLimit noPathLine ps) ≡ quantitiesOf ps
+quantities-filled ps few =
+    let rest = replicate (pathLimit - length ps) noPathLine in
+    ap (quantitiesIn (length ps)) (filled-few pathLimit noPathLine ps few)
+    ∙ ap (take (length ps * quantityWords)) (quantities-append ps rest)
+    ∙ take-at (quantitiesOf ps) (quantitiesOf rest) (length ps * quantityWords) (quantities-length ps)
+
+-- ---- The whole
+
+unless-alike : (n : ℕ) (done a b : Outcome) → (n ≡ 0 → a ≡ b) → unlessRefused n done a ≡ unlessRefused n done b
+unless-alike zero done a b same = same refl
+unless-alike (suc n) done a b same = refl
+
+pub slots-opened : (kind : Kind) (period : Period) (bidders : List BidderLine) (ps : List PathLine) → openedSlots kind period bidders (pathRows ps) ≡ opened kind period bidders ps
+unfolding openedSlots opened
+slots-opened kind period bidders ps =
+    let made = fresh (routesOf ps) (length ps) in
+    let calls : List ℕ → Book → Outcome = λ quantities b. andThen (deposits b bidders) (λ after. «open» after emptyRegister kind period quantities) in
+    let slots = quantitiesIn (length ps) (filled pathLimit noPathLine ps) in
+    ap (λ (l : List Route). andThen (fresh l (length ps)) (calls slots)) (map-filled routeOf pathLimit noPathLine ps)
+    ∙ unless-alike (answerNumber (made .answer)) made (calls slots (made .book)) (calls (quantitiesOf ps) (made .book))
+    (λ none. ap (λ (l : List ℕ). calls l (made .book)) (quantities-filled ps (fresh-few (routesOf ps) (length ps) none)))

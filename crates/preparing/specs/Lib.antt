@@ -1,0 +1,3 @@
+-- The calls before the first round.
+pub mod PreparedSlots
+pub mod Preparing

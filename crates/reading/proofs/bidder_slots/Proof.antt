@@ -1,0 +1,82 @@
+use borrow.Author.Needs.{needs}
+use Prim.Native.Nat.{_-_}
+use native.Mathlib.Omega.{arith}
+use Rattle.reading.proofs.SlotLaws.{SlotsTo, none-slotted, all-slotted, one-slotted}
+use Rattle.market.specs.Limits.{bidderLimit}
+use Rattle.lines.specs.declared.part.Part.the-variants.{Bidders}
+use Rattle.sheets.specs.Reading.{bidderAt}
+use Rattle.sheets.specs.Slots.{noBidderLine}
+use Rattle.reading.proofs.bidder_slots.Statement.{statement}
+use Rattle.reading.proofs.bidder_slots.Tie as tie
+
+abbrev Inv-loop : tie.InvT-loop
+Inv-loop bytes at count slots₀ place₀ state₀ i₀ slots place state i =
+    SlotsTo Bidders bidderAt bidderLimit noBidderLine bytes at count slots place state i
+
+abbrev μ-loop : tie.MeasureT-loop
+μ-loop bytes at count slots₀ place₀ state₀ i₀ slots place state i = count - i
+
+no-bidder-line-requires : tie.Need-no-bidder-line-requires Inv-loop μ-loop
+no-bidder-line-requires c κs = search needs
+
+loop-holds : tie.Need-loop-holds Inv-loop μ-loop
+loop-holds c =
+    let a = c .before .before .args in
+    let blank = c .no-bidder-line in
+    none-slotted Bidders bidderAt bidderLimit noBidderLine (a .bytes .now) (a .at) (a .count) (blank .result) (blank .ensures) (c .before .before .pre .0)
+
+bidder-at-requires : tie.Need-bidder-at-requires Inv-loop μ-loop
+bidder-at-requires c κs = search needs
+
+mul-slots : tie.Need-mul-slots Inv-loop μ-loop
+mul-slots c = search needs
+
+array-set-from-slots : tie.Need-array-set-from-slots Inv-loop μ-loop
+array-set-from-slots c = search needs
+
+line-at-requires : tie.Need-line-at-requires Inv-loop μ-loop
+line-at-requires c κs =
+    let inv = c .before .before .loop .inv in
+    (omega (arith, inv .bound, inv .within, c .before .before .before .before .before .pre .1), inv .fits)
+
+add-place : tie.Need-add-place Inv-loop μ-loop
+add-place c = search needs
+
+add-i : tie.Need-add-i Inv-loop μ-loop
+add-i c = search needs
+
+loop-less : tie.Need-loop-less Inv-loop μ-loop
+loop-less c = search needs
+
+loop-again : tie.Need-loop-again Inv-loop μ-loop
+loop-again c =
+    let start = c .before .before .before .before .before .before .before in
+    let a = start .args in
+    let to = c .before .before .before .before .loop in
+    let line = c .before .before .bidder-at in
+    let step = c .before .line-at in
+    one-slotted Bidders bidderAt bidderLimit noBidderLine (a .bytes .now) (a .at) (a .count) (to .slots) (to .place) (to .state) (to .i) (to .inv) (c .before .before .before .loop-test .taken) (line .result) (line .ensures) (step .result) (step .ensures .0) (omega (arith, c .before .before .before .loop-test .taken, start .pre .1)) (step .ensures .1)
+
+returns : tie.Need-returns Inv-loop μ-loop
+returns c =
+    let a = c .before .before .before .before .args in
+    let to = c .before .loop in
+    all-slotted Bidders bidderAt bidderLimit noBidderLine (a .bytes .now) (a .at) (a .count) (to .slots) (to .place) (to .state) (to .i) (to .inv) (c .before .before .before .before .pre .1) (c .loop-test .left)
+
+pub bidder-slots-spec : {M : Type 1} → statement M
+bidder-slots-spec =
+    tie.close
+    (tie.spec
+    Inv-loop
+    μ-loop
+    no-bidder-line-requires
+    loop-holds
+    bidder-at-requires
+    mul-slots
+    array-set-from-slots
+    line-at-requires
+    add-place
+    add-i
+    loop-less
+    loop-again
+    returns)

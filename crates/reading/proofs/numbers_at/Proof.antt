@@ -1,0 +1,56 @@
+use Rattle.reading.proofs.SaidLaws.{path-said}
+use borrow.Author.Needs.{needs}
+use Rattle.reading.proofs.numbers_at.Statement.{statement}
+use Rattle.reading.proofs.numbers_at.Tie as tie
+
+word-at-requires : tie.Need-word-at-requires
+word-at-requires c κs = search needs
+
+add-second : tie.Need-add-second
+add-second c = search needs
+
+word-at-requires-2 : tie.Need-word-at-requires-2
+word-at-requires-2 c κs = search needs
+
+add-third : tie.Need-add-third
+add-third c = search needs
+
+word-at-requires-3 : tie.Need-word-at-requires-3
+word-at-requires-3 c κs = search needs
+
+add-fourth : tie.Need-add-fourth
+add-fourth c = search needs
+
+word-at-requires-4 : tie.Need-word-at-requires-4
+word-at-requires-4 c κs = search needs
+
+add-fifth : tie.Need-add-fifth
+add-fifth c = search needs
+
+word-at-requires-5 : tie.Need-word-at-requires-5
+word-at-requires-5 c κs = search needs
+
+returns : tie.Need-returns
+returns c =
+    let start = c .before .before .before .before .before .before .before .before .before .before .args in
+    let a = c .before .before .before .before .before .before .before .before .word-at in
+    let b = c .before .before .before .before .before .before .word-at2 in
+    let d = c .before .before .before .before .word-at3 in
+    let e = c .before .before .word-at4 in
+    let f = c .word-at5 in
+    path-said (start .bytes .now) (start .direction) (start .at) (a .result) (b .result) (d .result) (e .result) (f .result) (a .ensures .0, a .ensures .1 .0) (b .ensures .0, b .ensures .1 .0) (d .ensures .0, d .ensures .1 .0) (e .ensures .0, e .ensures .1 .0) (f .ensures .0, f .ensures .1 .0)
+
+pub numbers-at-spec : {M : Type 1} → statement M
+numbers-at-spec =
+    tie.close
+    (tie.spec
+    word-at-requires
+    add-second
+    word-at-requires-2
+    add-third
+    word-at-requires-3
+    add-fourth
+    word-at-requires-4
+    add-fifth
+    word-at-requires-5
+    returns)

@@ -1,0 +1,26 @@
+use native.Mathlib.Omega.{arith}
+use mathlib.Core.Path.{ap}
+use Rattle.lines.proofs.ReadLaws.{field-within}
+use Rattle.lines.specs.Fields.{wordTop}
+use Rattle.lines.specs.declared.fields.Field.{Field}
+use lib.ListN.{drop}
+use borrow.Author.Needs.{needs}
+use Rattle.reading.proofs.word_at.Statement.{statement}
+use Rattle.reading.proofs.word_at.Tie as tie
+
+field-at-requires : tie.Need-field-at-requires
+field-at-requires c κs = search needs
+
+cast-t5 : tie.Need-cast-t5
+cast-t5 c =
+    let a = c .before .before .before .args in
+    let f = c .before .field-at in
+    omega (arith, field-within wordTop (a .stop) (drop (a .at) (a .bytes .now)) (f .result) (f .ensures .0))
+
+returns : tie.Need-returns
+returns c =
+    let f = c .before .field-at in
+    (ap (λ (e : Field). e .value) (f .ensures .0), (ap (λ (e : Field). e .used) (f .ensures .0), f .ensures .1))
+
+pub word-at-spec : {M : Type 1} → statement M
+word-at-spec = tie.close (tie.spec field-at-requires cast-t5 returns)

@@ -1,0 +1,252 @@
+// What the lines of a sheet's bidders and paths say, and its days.
+use lines::fields;
+use lines::part::Part;
+use market::book::Direction;
+use market::book::Period;
+use market::engine::Engine;
+use market::units::Day;
+use sheets::rows::BidderLine;
+use sheets::rows::BidderRows;
+use sheets::rows::PathLine;
+use sheets::rows::PathRows;
+ghost use mathlib.Core.Path.{_≡_};
+ghost use Prim.Native.Nat.{_+_, _≤_, min};
+ghost use lib.ListN.{length, getD, drop};
+ghost use Rattle.market.specs.Books.{dayNumber};
+ghost use Rattle.market.specs.Limits.{bidderLimit, pathLimit};
+ghost use Rattle.lines.specs.Fields.{wordTop, newline, fieldAt, numbersSaid};
+ghost use Rattle.lines.specs.Lines.{daysPlace, countSaid};
+ghost use Rattle.lines.specs.declared.part.Part.the-variants.{Bidders, Paths};
+ghost use Rattle.sheets.specs.Reading.{linesIn, bidderAt, directionOf, pathOf, routeIn, pathAt, sectionSays, daysIn};
+ghost use Rattle.sheets.specs.Slots.{filled, noBidderLine, noPathLine, bidderRows, pathRows};
+
+// Where the days stand in a title.
+const DAYS: usize = 6;
+
+// How many paths a book has.
+const PATHS: u64 = Engine::PATHS as u64;
+
+// A number of 32 bits that was read, and the bytes that it takes with the byte that ends it; 0 bytes where it does not stand there.
+struct Word {
+    value: u32,
+    used: usize,
+}
+
+// ---- Lines
+
+// The number of 32 bits at a place, with the byte that ends it.
+fn word_at(bytes: &[u8], at: usize, stop: u8) -> Word
+    requires { ⌜ at ≤ length (now bytes) ⌝ }
+    requires { ⌜ 1 ≤ stop ⌝ }
+    ensures value { λ r. ⌜ r .value ≡ fieldAt wordTop stop (drop at (now (bytes .entry))) .value ⌝ }
+    ensures used { λ r. ⌜ r .used ≡ fieldAt wordTop stop (drop at (now (bytes .entry))) .used ⌝ }
+    ensures fits { λ r. ⌜ at + r .used ≤ length (now (bytes .entry)) ⌝ }
+{
+    let field = fields::field_at(bytes, at, fields::WORD_TOP, stop);
+    Word {
+        value: field.value as u32,
+        used: field.used,
+    }
+}
+
+// A bidder's line: bidder, cash and letter.
+fn bidder_at(bytes: &[u8], at: usize) -> BidderLine
+    requires { ⌜ at ≤ length (now bytes) ⌝ }
+    ensures { λ r. ⌜ r ≡ bidderAt (drop at (now (bytes .entry))) ⌝ }
+{
+    let bidder = fields::field_at(bytes, at, fields::AMOUNT_TOP, fields::SPACE);
+    let second = at + bidder.used;
+    let cash = fields::field_at(bytes, second, fields::AMOUNT_TOP, fields::SPACE);
+    let third = second + cash.used;
+    let letter = fields::field_at(bytes, third, fields::AMOUNT_TOP, fields::NEWLINE);
+    BidderLine {
+        bidder: bidder.value,
+        cash: cash.value,
+        letter: letter.value,
+    }
+}
+
+// The direction whose byte stands at a place: an export where none does.
+fn direction_at(bytes: &[u8], at: usize) -> Direction
+    requires { ⌜ at ≤ length (now bytes) ⌝ }
+    ensures { λ r. ⌜ r ≡ directionOf (getD (drop at (now (bytes .entry))) 0 0) ⌝ }
+{
+    if at == bytes.len() {
+        return Direction::Export;
+    }
+    if bytes[at] == lines::IMPORT {
+        return Direction::Import;
+    }
+    Direction::Export
+}
+
+// The place two bytes further on, or the end.
+fn two_on(bytes: &[u8], at: usize) -> usize
+    requires { ⌜ at ≤ length (now bytes) ⌝ }
+    ensures place { λ r. ⌜ drop r (now (bytes .entry)) ≡ drop 2 (drop at (now (bytes .entry))) ⌝ }
+    ensures fits { λ r. ⌜ r ≤ length (now (bytes .entry)) ⌝ }
+{
+    if bytes.len() - at < 2 {
+        return bytes.len();
+    }
+    at + 2
+}
+
+// What a path's line says behind its direction: zone, base, FUL, A and B.
+fn numbers_at(direction: Direction, bytes: &[u8], at: usize) -> PathLine
+    requires { ⌜ at ≤ length (now bytes) ⌝ }
+    ensures { λ r. ⌜ r ≡ pathOf direction (numbersSaid wordTop newline 5 (drop at (now (bytes .entry)))) ⌝ }
+{
+    let zone = word_at(bytes, at, fields::SPACE);
+    let second = at + zone.used;
+    let base = word_at(bytes, second, fields::SPACE);
+    let third = second + base.used;
+    let upper = word_at(bytes, third, fields::SPACE);
+    let fourth = third + upper.used;
+    let first = word_at(bytes, fourth, fields::SPACE);
+    let fifth = fourth + first.used;
+    let last = word_at(bytes, fifth, fields::NEWLINE);
+    PathLine {
+        direction,
+        zone: zone.value,
+        base: base.value,
+        upper: upper.value,
+        first: first.value,
+        second: last.value,
+    }
+}
+
+// A path's line behind its number.
+fn route_at(bytes: &[u8], at: usize) -> PathLine
+    requires { ⌜ at ≤ length (now bytes) ⌝ }
+    ensures { λ r. ⌜ r ≡ routeIn (drop at (now (bytes .entry))) ⌝ }
+{
+    let direction = direction_at(bytes, at);
+    numbers_at(direction, bytes, two_on(bytes, at))
+}
+
+// A path's line.
+fn path_at(bytes: &[u8], at: usize) -> PathLine
+    requires { ⌜ at ≤ length (now bytes) ⌝ }
+    ensures { λ r. ⌜ r ≡ pathAt (drop at (now (bytes .entry))) ⌝ }
+{
+    let number = fields::field_at(bytes, at, fields::WORD_TOP, fields::SPACE);
+    route_at(bytes, at + number.used)
+}
+
+// ---- Sections
+
+// A slot without a bidder's line.
+fn no_bidder_line() -> BidderLine
+    ensures { λ r. ⌜ r ≡ noBidderLine ⌝ }
+{
+    BidderLine {
+        bidder: 0,
+        cash: 0,
+        letter: 0,
+    }
+}
+
+// So many bidders' lines from a place on, in slots.
+fn bidder_slots(bytes: &[u8], at: usize, count: usize) -> [BidderLine; Engine::BIDDERS]
+    requires { ⌜ at ≤ length (now bytes) ⌝ }
+    requires { ⌜ count ≤ bidderLimit ⌝ }
+    ensures { λ r. ⌜ r ≡ filled bidderLimit noBidderLine (linesIn Bidders bidderAt count 0 (drop at (now (bytes .entry)))) ⌝ }
+{
+    let mut slots = [no_bidder_line(); Engine::BIDDERS];
+    let mut place = at;
+    let mut state: u64 = 0;
+    for i in 0..count {
+        let line = bidder_at(bytes, place);
+        slots[i] = line;
+        let step = lines::line_at(Part::Bidders, state, bytes, place);
+        place += step.used;
+        state = step.next;
+    }
+    slots
+}
+
+// The bidders' lines of the section at a place.
+pub fn bidders_of(bytes: &[u8], at: usize) -> BidderRows
+    requires { ⌜ at ≤ length (now bytes) ⌝ }
+    requires { ⌜ countSaid Bidders (drop at (now bytes)) ≤ bidderLimit ⌝ }
+    ensures { λ r. ⌜ r ≡ bidderRows (sectionSays Bidders bidderAt (drop at (now (bytes .entry)))) ⌝ }
+{
+    let said = lines::count_line(bytes, at, Part::Bidders);
+    let count = said.value as usize;
+    BidderRows {
+        count,
+        lines: bidder_slots(bytes, at + said.used, count),
+    }
+}
+
+// A slot without a path's line.
+fn no_path_line() -> PathLine
+    ensures { λ r. ⌜ r ≡ noPathLine ⌝ }
+{
+    PathLine {
+        direction: Direction::Export,
+        zone: 0,
+        base: 0,
+        upper: 0,
+        first: 0,
+        second: 0,
+    }
+}
+
+// So many paths' lines from a place on, in slots.
+fn path_slots(bytes: &[u8], at: usize, count: usize) -> [PathLine; Engine::PATHS]
+    requires { ⌜ at ≤ length (now bytes) ⌝ }
+    requires { ⌜ count ≤ pathLimit ⌝ }
+    ensures { λ r. ⌜ r ≡ filled pathLimit noPathLine (linesIn Paths pathAt count 0 (drop at (now (bytes .entry)))) ⌝ }
+{
+    let mut slots = [no_path_line(); Engine::PATHS];
+    let mut place = at;
+    let mut state: u64 = 0;
+    for i in 0..count {
+        let line = path_at(bytes, place);
+        slots[i] = line;
+        let step = lines::line_at(Part::Paths, state, bytes, place);
+        place += step.used;
+        state = step.next;
+    }
+    slots
+}
+
+// How many of so many paths have a slot.
+fn slotted(count: u64) -> usize
+    ensures { λ r. ⌜ r ≡ min count pathLimit ⌝ }
+{
+    if count < PATHS {
+        return count as usize;
+    }
+    Engine::PATHS
+}
+
+// The first paths' lines of the section at a place, and how many lines it has in all.
+pub fn paths_of(bytes: &[u8], at: usize) -> PathRows
+    requires { ⌜ at ≤ length (now bytes) ⌝ }
+    ensures { λ r. ⌜ r ≡ pathRows (sectionSays Paths pathAt (drop at (now (bytes .entry)))) ⌝ }
+{
+    let said = lines::count_line(bytes, at, Part::Paths);
+    let few = slotted(said.value);
+    PathRows {
+        count: said.value as usize,
+        lines: path_slots(bytes, at + said.used, few),
+    }
+}
+
+// ---- Title
+
+// The days in a title, first and last.
+pub fn period_in(bytes: &[u8]) -> Period
+    requires { ⌜ daysPlace ≤ length (now bytes) ⌝ }
+    ensures { λ r. ⌜ r ≡ record { first = dayNumber (getD (daysIn (now (bytes .entry))) 0 0); last = dayNumber (getD (daysIn (now (bytes .entry))) 1 0) } ⌝ }
+{
+    let first = word_at(bytes, DAYS, fields::SPACE);
+    let last = word_at(bytes, DAYS + first.used, fields::NEWLINE);
+    Period {
+        first: Day(first.value),
+        last: Day(last.value),
+    }
+}

@@ -1,0 +1,2 @@
+-- The rounds of a sheet, and the output behind them.
+pub mod Rounds

@@ -1,0 +1,2 @@
+-- An award sheet being written.
+pub mod Written

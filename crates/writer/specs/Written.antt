@@ -1,0 +1,22 @@
+-- What is written next on an award sheet, and the sheet once it is.
+use mathlib.Core.List.{List}
+use Prim.Native.Nat.{ℕ, _+_}
+use lib.ListN.{length}
+use denote.Ref.{now, at-last}
+use Rattle.text.specs.Put.{putAt}
+use Rattle.bids.specs.Bids.{bidsOf}
+use Rattle.award_sheet.specs.AwardSheet.{roundText}
+use Rattle.writer.specs.declared.Writer.{Writer}
+
+-- the same buffer with the text behind what was filled, which is filled now too
+abbrev pub written : Writer → List ℕ → Writer
+written w text = record { out = at-last (w .out) (putAt (now (w .out)) (w .filled) text); filled = w .filled + length text }
+
+-- the same buffer with the text at its front, and nothing filled but the text
+abbrev pub fronted : Writer → List ℕ → Writer
+fronted w text = record { out = at-last (w .out) (putAt (now (w .out)) 0 text); filled = length text }
+
+-- a round of the bids that these words are, as it was answered
+abbrev pub answeredText : ℕ → List ℕ → List ℕ → List ℕ → List ℕ
+answeredText paths words answers results =
+    roundText paths (record { bids = bidsOf words; answers = answers; results = results })
