@@ -1,0 +1,149 @@
+-- Laws about a field at a place of a line.
+use mathlib.Core.Path.{_≡_, refl, sym, _∙_, ap, ap₂}
+use mathlib.Core.Bool.{Bool, true, false, cond}
+use mathlib.Core.List.{List, [], _∷_}
+use Prim.Native.Nat.{ℕ, zero, suc, _+_, _-_, _≤_, _<_}
+use native.Mathlib.Omega.{arith}
+use lib.Dec.{leb, eqb}
+use lib.IntN.{ℤ, pos, negℤ, _-ℤ_, +ℤ-idl}
+use lib.ListN.{length, drop, length-drop}
+use lib.Seq.{drop-drop}
+use mir.Syntax.{w64}
+use mir.Val.{SFits}
+use borrow.Author.Tests.{eq-eqb, ne-eqb, leb-true}
+use Rattle.market.proofs.Tests.{right-true}
+use Rattle.text.specs.Decimal.{digitsIn, valueFrom, plain}
+use Rattle.lines.specs.Fields.{space, startsWith}
+use Rattle.lines.specs.declared.fields.Field.{Field}
+use Rattle.lines.proofs.ReadLaws.{starts-fit}
+use Rattle.journal_fields.specs.declared.Price.{Price}
+use Rattle.journal_fields.specs.JournalFields.{noField, numeralWithin, numeralOf, numeral, behind, number, closing, lastNumber, choice, minus, noPrice, aboveZero, belowZero, price, priceTop}
+
+-- a word that stands at a place has its bytes there
+pub word-room : (word line : List ℕ) (at : ℕ) → at ≤ length line → startsWith word (drop at line) ≡ true → at + length word ≤ length line
+word-room word line at h e = omega (arith, starts-fit word (drop at line) e, length-drop at line)
+
+-- ---- What is read is within its limit
+
+within-of : (limit : ℕ) (ds : List ℕ) (t : Bool) → numeralWithin limit ds ≡ t → cond t (valueFrom 0 ds) 0 ≤ limit
+within-of limit ds true e = leb-true (valueFrom 0 ds) limit (right-true (plain ds) (leb (valueFrom 0 ds) limit) e)
+within-of limit ds false e = omega arith
+
+value-of : (limit : ℕ) (ds : List ℕ) (t : Bool) → numeralOf limit ds .value ≡ cond (numeralWithin limit ds) (valueFrom 0 ds) 0
+value-of limit ds t = go (numeralWithin limit ds)
+  where
+    go : (s : Bool) → (cond s (record { value = valueFrom 0 ds; used = length ds }) noField) .value ≡ cond s (valueFrom 0 ds) 0
+    go true = refl
+    go false = refl
+
+pub numeral-within : (limit : ℕ) (text : List ℕ) → numeral limit text .value ≤ limit
+unfolding numeral
+numeral-within limit text =
+    let ds = digitsIn text in
+    omega (arith, value-of limit ds true, within-of limit ds (numeralWithin limit ds) refl)
+
+behind-within : (limit n : ℕ) (f : Field) (t : Bool) → f .value ≤ limit → (cond t noField (record { value = f .value; used = n + f .used })) .value ≤ limit
+behind-within limit n f true h = omega arith
+behind-within limit n f false h = h
+
+pub number-within : (limit : ℕ) (text : List ℕ) → number limit text .value ≤ limit
+unfolding number
+number-within limit text = go (startsWith (space ∷ []) text)
+  where
+    f : Field
+    f = numeral limit (drop 1 text)
+
+    go : (t : Bool) → (cond t (behind 1 (numeral limit (drop 1 text))) noField) .value ≤ limit
+    go true = behind-within limit 1 (numeral limit (drop 1 text)) (eqb (numeral limit (drop 1 text) .used) 0) (numeral-within limit (drop 1 text))
+    go false = omega arith
+
+-- ---- A field at a place
+module _ (line : List ℕ) (at : ℕ) where
+  abbrev here : List ℕ
+  here = drop at line
+
+  module _ (limit : ℕ) where
+    pub number-absent : startsWith (space ∷ []) here ≡ false → noField ≡ number limit here
+    unfolding number
+    number-absent e = ap (λ (t : Bool). cond t (behind 1 (numeral limit (drop 1 here))) noField) (sym e)
+
+    module _ (s : startsWith (space ∷ []) here ≡ true) (f : Field) (e : f ≡ numeral limit (drop (at + 1) line)) where
+      same : number limit here ≡ behind 1 f
+      unfolding number
+      same =
+          ap (λ (t : Bool). cond t (behind 1 (numeral limit (drop 1 here))) noField) s
+          ∙ ap (behind 1) (ap (numeral limit) (drop-drop 1 at line) ∙ sym e)
+
+      pub number-empty : f .used ≡ 0 → noField ≡ number limit here
+      number-empty z =
+          sym (same ∙ ap (λ (t : Bool). cond t noField (record { value = f .value; used = 1 + f .used })) (eq-eqb (f .used) 0 z))
+
+      pub number-here : (f .used ≡ 0 → ⊥) → _≡_ {A = Field} (record { value = f .value; used = 1 + f .used }) (number limit here)
+      number-here z =
+          sym (same ∙ ap (λ (t : Bool). cond t noField (record { value = f .value; used = 1 + f .used })) (ne-eqb (f .used) 0 z))
+
+    module _ (h : at ≤ length line) (f : Field) (e : f ≡ number limit here) where
+      pub last-open : (f .used ≡ length line - at → ⊥) → noField ≡ lastNumber limit here
+      unfolding lastNumber
+      last-open other =
+          sym (ap (closing here) (sym e)
+          ∙ ap (λ (t : Bool). cond t f noField) (ne-eqb (f .used) (length here) (λ q. other (q ∙ length-drop at line))))
+
+      pub last-here : f .used ≡ length line - at → f ≡ lastNumber limit here
+      unfolding lastNumber
+      last-here q =
+          sym (ap (closing here) (sym e)
+          ∙ ap (λ (t : Bool). cond t f noField) (eq-eqb (f .used) (length here) (q ∙ sym (length-drop at line))))
+
+  module _ (first second : List ℕ) where
+    abbrev otherwise : Bool → Field
+    otherwise t = cond t (record { value = 1; used = length second }) noField
+
+    abbrev chosen : Bool → Field
+    chosen t = cond t (record { value = 0; used = length first }) (otherwise (startsWith second here))
+
+    pub choice-first : startsWith first here ≡ true → _≡_ {A = Field} (record { value = 0; used = length first }) (choice first second here)
+    unfolding choice
+    choice-first e = ap chosen (sym e)
+
+    pub choice-second : startsWith first here ≡ false → startsWith second here ≡ true → _≡_ {A = Field} (record { value = 1; used = length second }) (choice first second here)
+    unfolding choice
+    choice-second e d = ap otherwise (sym d) ∙ ap chosen (sym e)
+
+    pub choice-none : startsWith first here ≡ false → startsWith second here ≡ false → noField ≡ choice first second here
+    unfolding choice
+    choice-none e d = ap otherwise (sym d) ∙ ap chosen (sym e)
+
+  module _ (s : startsWith minus here ≡ true) (f : Field) (e : f ≡ numeral priceTop (drop (at + 2) line)) where
+    below : price here ≡ belowZero f
+    unfolding price
+    below =
+        ap (λ (t : Bool). cond t (belowZero (numeral priceTop (drop 2 here))) (aboveZero (number priceTop here))) s
+        ∙ ap belowZero (ap (numeral priceTop) (drop-drop 2 at line) ∙ sym e)
+
+    pub price-zero : f .value ≡ 0 → noPrice ≡ price here
+    price-zero z =
+        sym (below ∙ ap (λ (t : Bool). cond t noPrice (record { value = negℤ (pos (f .value)); used = 2 + f .used })) (eq-eqb (f .value) 0 z))
+
+    pub price-below : (f .value ≡ 0 → ⊥) → _≡_ {A = Price} (record { value = negℤ (pos (f .value)); used = 2 + f .used }) (price here)
+    price-below z =
+        sym (below ∙ ap (λ (t : Bool). cond t noPrice (record { value = negℤ (pos (f .value)); used = 2 + f .used })) (ne-eqb (f .value) 0 z))
+
+  pub price-above : startsWith minus here ≡ false → (f : Field) → f ≡ number priceTop here → aboveZero f ≡ price here
+  unfolding price
+  price-above s f e =
+      ap aboveZero e
+      ∙ ap (λ (t : Bool). cond t (belowZero (numeral priceTop (drop 2 here))) (aboveZero (number priceTop here))) (sym s)
+
+-- ---- Prices fit 64 bits with a sign
+
+pub above-fits : (n : ℕ) → n ≤ priceTop → SFits w64 (pos n)
+above-fits n h = record { sfits = omega arith }
+
+pub below-fits : (n : ℕ) → n ≤ priceTop → SFits w64 (negℤ (pos n))
+below-fits zero h = record { sfits = omega arith }
+below-fits (suc n) h = record { sfits = omega arith }
+
+-- the other sign of a size, as it is worked out
+pub opposite : (n : ℕ) → pos 0 -ℤ pos n ≡ negℤ (pos n)
+opposite n = +ℤ-idl (negℤ (pos n))

@@ -1,0 +1,27 @@
+use borrow.Author.Needs.{needs}
+use native.Mathlib.Omega.{arith}
+use Rattle.journal_fields.proofs.FieldLaws.{last-open, last-here}
+use borrow.Author.Needs.{needs}
+use Rattle.journal_fields.proofs.last_number.Statement.{statement}
+use Rattle.journal_fields.proofs.last_number.Tie as tie
+
+number-at-requires : tie.Need-number-at-requires
+number-at-requires c κs = search needs
+
+sub-if1 : tie.Need-sub-if1
+sub-if1 c = search needs
+
+returns : tie.Need-returns
+returns c =
+    let a = c .before .before .before .before .args in
+    let found = c .before .before .number-at in
+    (last-open (a .line .now) (a .at) (a .limit) (search needs) (found .result) (found .ensures .0) (c .if1 .taken), search needs)
+
+returns-2 : tie.Need-returns-2
+returns-2 c =
+    let a = c .before .before .before .before .args in
+    let found = c .before .before .number-at in
+    (last-here (a .line .now) (a .at) (a .limit) (search needs) (found .result) (found .ensures .0) (omega arith), found .ensures .1)
+
+pub last-number-spec : {M : Type 1} → statement M
+last-number-spec = tie.close (tie.spec number-at-requires sub-if1 returns returns-2)

@@ -1,0 +1,114 @@
+use borrow.Author.Needs.{needs}
+use native.Mathlib.Omega.{arith}
+use mathlib.Core.Logic.{⊎-elim}
+use Prim.Native.Nat.{_-_, _≤_}
+use lib.ListN.{length}
+use Rattle.journal_fields.proofs.NumeralLaws.{NumeralTo, numeral-none, numeral-more, zero-first, too-large, ended-below, ended-above, ended-line}
+use Rattle.journal_fields.proofs.numeral_at.Statement.{statement}
+use Rattle.journal_fields.proofs.numeral_at.Tie as tie
+
+abbrev Inv-loop : tie.InvT-loop
+Inv-loop line at limit none value₀ i₀ value i = NumeralTo line at limit i value
+
+abbrev μ-loop : tie.MeasureT-loop
+μ-loop line at limit none value₀ i₀ value i = length line - i
+
+loop-holds : tie.Need-loop-holds Inv-loop μ-loop
+loop-holds c =
+    let a = c .args in
+    numeral-none (a .line .now) (a .at) (a .limit) (c .pre)
+
+shared-slice-read-c : tie.Need-shared-slice-read-c Inv-loop μ-loop
+shared-slice-read-c c = search needs
+
+sub-t13 : tie.Need-sub-t13 Inv-loop μ-loop
+sub-t13 c = search needs
+
+returns : tie.Need-returns Inv-loop μ-loop
+returns c =
+    let a = c .before .before .before .before .args in
+    let to = c .before .before .before .loop in
+    (ended-below (a .line .now) (a .at) (a .limit) (to .i) (to .value) (to .inv) (search needs) (omega arith), search needs)
+
+sub-t14 : tie.Need-sub-t14 Inv-loop μ-loop
+sub-t14 c = search needs
+
+returns-2 : tie.Need-returns-2 Inv-loop μ-loop
+returns-2 c =
+    let a = c .before .before .before .before .before .args in
+    let to = c .before .before .before .before .loop in
+    (ended-above (a .line .now) (a .at) (a .limit) (to .i) (to .value) (to .inv) (search needs) (omega arith), search needs)
+
+cast-digit : tie.Need-cast-digit Inv-loop μ-loop
+cast-digit c = search needs
+
+returns-3 : tie.Need-returns-3 Inv-loop μ-loop
+returns-3 c =
+    let a = c .before .before .before .before .before .before .before .args in
+    let to = c .before .before .before .before .before .before .loop in
+    (zero-first (a .line .now) (a .at) (a .limit) (to .i) (to .value) (to .inv) (search needs) (omega arith) (omega arith) (omega arith) (omega arith), search needs)
+
+returns-4 : tie.Need-returns-4 Inv-loop μ-loop
+returns-4 c =
+    let a = c .before .before .before .before .before .before .before .args in
+    let to = c .before .before .before .before .before .before .loop in
+    (too-large (a .line .now) (a .at) (a .limit) (to .i) (to .value) (to .inv) (search needs) (omega arith) (omega arith) (omega arith), search needs)
+
+returns-5 : tie.Need-returns-5 Inv-loop μ-loop
+returns-5 c =
+    let a = c .before .before .before .before .before .before .before .before .args in
+    let to = c .before .before .before .before .before .before .before .loop in
+    (too-large (a .line .now) (a .at) (a .limit) (to .i) (to .value) (to .inv) (search needs) (omega arith) (omega arith) (omega arith), search needs)
+
+mul-value : tie.Need-mul-value Inv-loop μ-loop
+mul-value c = search needs
+
+add-value : tie.Need-add-value Inv-loop μ-loop
+add-value c = search needs
+
+add-i : tie.Need-add-i Inv-loop μ-loop
+add-i c = search needs
+
+loop-less : tie.Need-loop-less Inv-loop μ-loop
+loop-less c = search needs
+
+loop-again : tie.Need-loop-again Inv-loop μ-loop
+loop-again c =
+    let a = c .before .before .before .before .before .before .before .before .args in
+    let to = c .before .before .before .before .before .before .before .loop in
+    numeral-more (a .line .now) (a .at) (a .limit) (to .i) (to .value) (to .inv) (search needs) (omega arith) (omega arith)
+    (λ past. ⊎-elim (λ w. omega arith) (λ w. omega arith) (c .before .before .if3 .came))
+    (omega arith)
+
+sub-t18 : tie.Need-sub-t18 Inv-loop μ-loop
+sub-t18 c = search needs
+
+returns-6 : tie.Need-returns-6 Inv-loop μ-loop
+returns-6 c =
+    let a = c .before .before .args in
+    let to = c .before .loop in
+    (ended-line (a .line .now) (a .at) (a .limit) (to .i) (to .value) (to .inv) (omega arith), search needs)
+
+pub numeral-at-spec : {M : Type 1} → statement M
+numeral-at-spec =
+    tie.close
+    (tie.spec
+    Inv-loop
+    μ-loop
+    loop-holds
+    shared-slice-read-c
+    sub-t13
+    returns
+    sub-t14
+    returns-2
+    cast-digit
+    returns-3
+    returns-4
+    returns-5
+    mul-value
+    add-value
+    add-i
+    loop-less
+    loop-again
+    sub-t18
+    returns-6)

@@ -1,0 +1,2 @@
+-- The fields of a journal's line.
+pub mod JournalFields

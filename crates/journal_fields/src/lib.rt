@@ -1,0 +1,224 @@
+// The fields of a journal's line, each read at a place of it with the space before it. What is read is given by the bytes that it takes,
+// and these are 0 where it does not stand there.
+use lines::fields;
+use lines::fields::Field;
+ghost use mathlib.Core.Path.{_≡_};
+ghost use Prim.Native.Nat.{_+_, _≤_};
+ghost use lib.IntN.{pos, negℤ};
+ghost use lib.ListN.{length, drop};
+ghost use Rattle.journal_fields.specs.JournalFields as rules;
+
+// The largest numbers that fit 64 bits, and 63 bits beside a sign.
+pub const WIDE_TOP: u64 = 18_446_744_073_709_551_615;
+
+pub const PRICE_TOP: u64 = 9_223_372_036_854_775_807;
+
+// The byte of the digit 0, and that of 9.
+const ZERO: u8 = 48;
+
+const NINE: u8 = 57;
+
+// A price that was read, and the bytes that it takes.
+pub struct Price {
+    pub value: i64,
+    pub used: usize,
+}
+
+// Numbers that were read one behind another: how many, and the bytes that they take.
+pub struct Run {
+    pub count: usize,
+    pub used: usize,
+}
+
+// The number at a place, up to a limit.
+fn numeral_at(line: &[u8], at: usize, limit: u64) -> Field
+    requires { ⌜ at ≤ length (now line) ⌝ }
+    ensures field { λ r. ⌜ r ≡ rules.numeral limit (drop at (now (line .entry))) ⌝ }
+    ensures fits { λ r. ⌜ at + r .used ≤ length (now (line .entry)) ⌝ }
+{
+    let none = Field { value: 0, used: 0 };
+    let mut value: u64 = 0;
+    let mut i = at;
+    while i < line.len() {
+        let c = line[i];
+        if c < ZERO {
+            return Field {
+                value,
+                used: i - at,
+            };
+        }
+        if NINE < c {
+            return Field {
+                value,
+                used: i - at,
+            };
+        }
+        let digit = (c - ZERO) as u64;
+        if at < i {
+            if value == 0 {
+                return none;
+            }
+        }
+        if limit < digit {
+            return none;
+        }
+        if (limit - digit) / 10 < value {
+            return none;
+        }
+        value = value * 10 + digit;
+        i += 1;
+    }
+    Field {
+        value,
+        used: i - at,
+    }
+}
+
+// The number at a place behind its space, up to a limit.
+pub fn number_at(line: &[u8], at: usize, limit: u64) -> Field
+    requires { ⌜ at ≤ length (now line) ⌝ }
+    ensures field { λ r. ⌜ r ≡ rules.number limit (drop at (now (line .entry))) ⌝ }
+    ensures fits { λ r. ⌜ at + r .used ≤ length (now (line .entry)) ⌝ }
+{
+    let none = Field { value: 0, used: 0 };
+    if !fields::starts_with(line, at, b" ") {
+        return none;
+    }
+    let found = numeral_at(line, at + 1, limit);
+    if found.used == 0 {
+        return none;
+    }
+    Field {
+        value: found.value,
+        used: 1 + found.used,
+    }
+}
+
+// The number at a place, where it ends the line.
+pub fn last_number(line: &[u8], at: usize, limit: u64) -> Field
+    requires { ⌜ at ≤ length (now line) ⌝ }
+    ensures field { λ r. ⌜ r ≡ rules.lastNumber limit (drop at (now (line .entry))) ⌝ }
+    ensures fits { λ r. ⌜ at + r .used ≤ length (now (line .entry)) ⌝ }
+{
+    let found = number_at(line, at, limit);
+    if found.used != line.len() - at {
+        return Field { value: 0, used: 0 };
+    }
+    found
+}
+
+// Which of two words stands at a place; each is given with its space.
+pub fn choice_at(line: &[u8], at: usize, first: &[u8], second: &[u8]) -> Field
+    requires { ⌜ at ≤ length (now line) ⌝ }
+    ensures field { λ r. ⌜ r ≡ rules.choice (now (first .entry)) (now (second .entry)) (drop at (now (line .entry))) ⌝ }
+    ensures fits { λ r. ⌜ at + r .used ≤ length (now (line .entry)) ⌝ }
+{
+    if fields::starts_with(line, at, first) {
+        return Field {
+            value: 0,
+            used: first.len(),
+        };
+    }
+    if fields::starts_with(line, at, second) {
+        return Field {
+            value: 1,
+            used: second.len(),
+        };
+    }
+    Field { value: 0, used: 0 }
+}
+
+// A price of this size, above 0 and below.
+fn above(size: u64) -> i64
+    requires { ⌜ size ≤ rules.priceTop ⌝ }
+    ensures { λ r. ⌜ r ≡ pos size ⌝ }
+{
+    size as i64
+}
+
+fn below(size: u64) -> i64
+    requires { ⌜ size ≤ rules.priceTop ⌝ }
+    ensures { λ r. ⌜ r ≡ negℤ (pos size) ⌝ }
+{
+    0 - size as i64
+}
+
+// The price at a place behind its space.
+pub fn price_at(line: &[u8], at: usize) -> Price
+    requires { ⌜ at ≤ length (now line) ⌝ }
+    ensures price { λ r. ⌜ r ≡ rules.price (drop at (now (line .entry))) ⌝ }
+    ensures fits { λ r. ⌜ at + r .used ≤ length (now (line .entry)) ⌝ }
+{
+    if fields::starts_with(line, at, b" -") {
+        let size = numeral_at(line, at + 2, PRICE_TOP);
+        if size.value == 0 {
+            return Price { value: 0, used: 0 };
+        }
+        return Price {
+            value: below(size.value),
+            used: 2 + size.used,
+        };
+    }
+    let found = number_at(line, at, PRICE_TOP);
+    Price {
+        value: above(found.value),
+        used: found.used,
+    }
+}
+
+// The words, numbers of 32 bits, at a place, one behind another, put at the front of a list.
+pub fn words_at(line: &[u8], at: usize, out: &mut [u32]) -> Run
+    requires { ⌜ at ≤ length (now line) ⌝ }
+    ensures count { λ r. ⌜ r .count ≡ length (rules.wordsSaid (length (now (out .entry))) (drop at (now (line .entry)))) ⌝ }
+    ensures used { λ r. ⌜ r .used ≡ rules.wordsUsed (length (now (out .entry))) (drop at (now (line .entry))) ⌝ }
+    ensures fits { λ r. ⌜ at + r .used ≤ length (now (line .entry)) ⌝ }
+    ensures list { λ r. ⌜ now (out .exit) ≡ rules.laid (rules.wordsSaid (length (now (out .entry))) (drop at (now (line .entry)))) (now (out .entry)) ⌝ }
+{
+    let mut place = at;
+    let mut i = 0;
+    while i < out.len() {
+        let next = number_at(line, place, fields::WORD_TOP);
+        if next.used == 0 {
+            return Run {
+                count: i,
+                used: place - at,
+            };
+        }
+        out[i] = next.value as u32;
+        place += next.used;
+        i += 1;
+    }
+    Run {
+        count: i,
+        used: place - at,
+    }
+}
+
+// The prices at a place, one behind another, put at the front of a list.
+pub fn prices_at(line: &[u8], at: usize, out: &mut [i64]) -> Run
+    requires { ⌜ at ≤ length (now line) ⌝ }
+    ensures count { λ r. ⌜ r .count ≡ length (rules.pricesSaid (length (now (out .entry))) (drop at (now (line .entry)))) ⌝ }
+    ensures used { λ r. ⌜ r .used ≡ rules.pricesUsed (length (now (out .entry))) (drop at (now (line .entry))) ⌝ }
+    ensures fits { λ r. ⌜ at + r .used ≤ length (now (line .entry)) ⌝ }
+    ensures list { λ r. ⌜ now (out .exit) ≡ rules.laid (rules.pricesSaid (length (now (out .entry))) (drop at (now (line .entry)))) (now (out .entry)) ⌝ }
+{
+    let mut place = at;
+    let mut i = 0;
+    while i < out.len() {
+        let next = price_at(line, place);
+        if next.used == 0 {
+            return Run {
+                count: i,
+                used: place - at,
+            };
+        }
+        let value = next.value;
+        out[i] = value;
+        place += next.used;
+        i += 1;
+    }
+    Run {
+        count: i,
+        used: place - at,
+    }
+}
