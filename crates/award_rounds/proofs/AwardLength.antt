@@ -16,13 +16,13 @@ use Rattle.market.specs.declared.book.Bidder.{Bidder}
 use Rattle.market.specs.declared.book.Book.{Book}
 use Rattle.text.proofs.DecimalLaws.{decimal-length}
 use Rattle.text.specs.Decimal.{decimal}
-use Rattle.lines.specs.Fields.{newline, space, line}
+use Rattle.fields.specs.Fields.{newline, space, line, countLine}
 use Rattle.lines.specs.Lines.{partWord}
 use Rattle.lines.specs.declared.part.Part.the-variants.{Bidders, Paths, Bids}
 use Rattle.bids.specs.Bids.{Bid}
 use Rattle.awards.proofs.RoundLots.{EachBid}
 use Rattle.round.specs.Answers.{markIn, valueIn, wonIn, chargeIn, offeredIn, soldIn, priceIn}
-use Rattle.award_sheet.specs.AwardSheet.{countLine, titleLine, markWord, bidLine, bidLines, priceField, pathLine, pathLines, awardLine, awardLines, winners, RoundMade, roundText, roundsText, isBidder, bidderLine, bidderLines, awardText, formRefusal, refusedLine, refusedText}
+use Rattle.award_sheet.specs.AwardSheet.{titleLine, markWord, bidLine, bidLines, priceField, pathLine, pathLines, awardLine, awardLines, winners, RoundMade, roundText, roundsText, isBidder, bidderLine, bidderLines, awardText, formRefusal, refusedLine, refusedText}
 use Rattle.award_sheet.specs.Phrases as words
 
 -- ---- A line

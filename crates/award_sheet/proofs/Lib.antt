@@ -1,4 +1,3 @@
 -- Laws about writing an award sheet.
 pub mod LineLaws
-pub mod PutLaws
 pub mod WalkLaws

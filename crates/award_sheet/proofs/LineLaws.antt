@@ -1,51 +1,23 @@
--- Laws about lines, piece by piece.
+-- Laws about the lines of an award sheet, piece by piece.
 use mathlib.Core.Path.{_≡_, sym, _∙_, ap}
 use mathlib.Core.Bool.{Bool, cond}
 use mathlib.Core.List.{List, [], _∷_, _++_, append-assoc, append-nil}
 use Prim.Native.Nat.{ℕ, zero, suc, _+_, _-_, _≤_, _<_}
 use native.Mathlib.Numerals.{add-one}
 use native.Mathlib.Omega.{arith}
-use lib.ListN.{length, getD, drop, length-drop, drop-of-length-le}
-use lib.Seq.{drop-cons}
+use lib.ListN.{length, getD, drop, drop-of-length-le}
 use borrow.Author.Tests.{lt-ltb, le-ltb, eq-eqb, ne-eqb}
 use Rattle.market.specs.Books.{bidderOf}
 use Rattle.market.specs.Limits.{admitted}
 use Rattle.market.specs.declared.book.Book.{Book}
 use Rattle.text.specs.Decimal.{decimal}
-use Rattle.lines.specs.Fields.{space, newline, numbersLine}
-use Rattle.lines.proofs.FieldLaws.{fieldText, numbersText, text-cons, line-text}
+use Rattle.fields.specs.Fields.{space, newline}
+use Rattle.fields.proofs.FieldLaws.{fieldText}
+use Rattle.writing.proofs.PieceLaws.{from-here}
 use Rattle.bids.specs.Bids.{Bid}
 use Rattle.round.specs.Answers.{wonIn}
 use Rattle.award_sheet.specs.AwardSheet.{markWord, priceField, pathLine, pathLines, awardLine, awardPart, bidderLine, bidderLines, RoundMade, bidsPart, pathsPart, awardsPart, roundText}
 use Rattle.award_sheet.specs.Phrases as words
-
-module _ (last : ℕ) (ns : List ℕ) (i : ℕ) where
-  from-here : i < length ns → drop i ns ≡ getD ns i 0 ∷ drop (i + 1) ns
-  from-here h = drop-cons ns i 0 h ∙ ap (λ (k : ℕ). getD ns i 0 ∷ drop k ns) (sym (add-one i))
-
-  -- a number that is not the last one, and those behind it
-  pub more-numbers : i + 1 < length ns → numbersText last (drop i ns) ≡ fieldText (getD ns i 0) space ++ numbersText last (drop (i + 1) ns)
-  more-numbers h =
-      ap (numbersText last) (from-here (omega arith))
-      ∙ text-cons last (getD ns i 0) (drop (i + 1) ns) (omega (arith, length-drop (i + 1) ns))
-
-  -- the last one
-  pub last-number : i < length ns → length ns ≤ i + 1 → numbersText last (drop i ns) ≡ fieldText (getD ns i 0) last ++ []
-  last-number h end =
-      ap (numbersText last) (from-here h ∙ ap (λ (l : List ℕ). getD ns i 0 ∷ l) (drop-of-length-le ns end))
-      ∙ sym (append-nil (fieldText (getD ns i 0) last))
-
--- a field with the byte behind it, and what follows
-pub field-piece : (field : List ℕ) (stop : ℕ) (more : List ℕ) → field ++ (stop ∷ more) ≡ (field ++ (stop ∷ [])) ++ more
-field-piece field stop more = sym (append-assoc field (stop ∷ []) more)
-
--- three numbers at the front of a line, and what follows
-pub three-pieces : (a b c : ℕ) (more : List ℕ) → decimal a ++ (space ∷ (decimal b ++ (space ∷ (decimal c ++ (space ∷ more))))) ≡ numbersText space (a ∷ b ∷ c ∷ []) ++ more
-three-pieces a b c more = simp append-assoc
-
--- a line of numbers alone
-pub line-alone : (n : ℕ) (ns : List ℕ) → numbersLine (n ∷ ns) ≡ numbersText newline (n ∷ ns) ++ []
-line-alone n ns = sym (append-nil (numbersText newline (n ∷ ns)) ∙ line-text n ns)
 
 -- ---- Fields by cases
 
@@ -109,7 +81,7 @@ paths-none results path paths end =
 -- the lines of the bidders listed
 module _ (b : Book) (listed : List ℕ) (i : ℕ) where
   pub bidders-next : i < length listed → bidderLines b (drop i listed) ≡ bidderLine (getD listed i 0) (bidderOf b (getD listed i 0)) ++ bidderLines b (drop (i + 1) listed)
-  bidders-next h = ap (bidderLines b) (from-here 0 listed i h)
+  bidders-next h = ap (bidderLines b) (from-here listed i h)
 
   pub bidders-none : length listed ≤ i → bidderLines b (drop i listed) ≡ []
   bidders-none end = ap (bidderLines b) (drop-of-length-le listed end)

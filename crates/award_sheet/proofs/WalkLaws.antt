@@ -12,8 +12,8 @@ use Rattle.bids.proofs.BidLaws.{fits-list}
 use Rattle.bids.proofs.Walk.{Walk, left, soundList, bid-right, walk-start, left-start, walk-on, walk-done, left-splits}
 use Rattle.bids.specs.Bids.{Bid, bidAt, bidEnd, bidsOf}
 use Rattle.round.specs.Answers.{wonIn}
+use Rattle.writing.proofs.PutLaws.{WrittenTo, written-none, written-fits, written-on, written-done}
 use Rattle.award_sheet.specs.AwardSheet.{winners}
-use Rattle.award_sheet.proofs.PutLaws.{WrittenTo, written-none, written-fits, written-on, written-done}
 
 -- the list has all words of the bid here
 pub bid-whole : (words : List ℕ) (k place : ℕ) → Walk pathLimit words k place → place < length words → bidEnd words place ≤ length words

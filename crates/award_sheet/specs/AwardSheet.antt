@@ -10,16 +10,12 @@ use Rattle.market.specs.Limits.{release, ruleEdition, admitted, bidderLimit}
 use Rattle.market.specs.declared.book.Bidder.{Bidder}
 use Rattle.market.specs.declared.book.Book.{Book}
 use Rattle.text.specs.Decimal.{decimal}
-use Rattle.lines.specs.Fields.{line, numbersLine}
+use Rattle.fields.specs.Fields.{line, numbersLine, countLine}
 use Rattle.lines.specs.Lines.{partWord}
 use Rattle.lines.specs.declared.part.Part.the-variants.{Bidders, Paths, Bids}
 use Rattle.bids.specs.Bids.{Bid}
 use Rattle.round.specs.Answers.{markIn, valueIn, wonIn, chargeIn, offeredIn, soldIn, priceIn}
 use Rattle.award_sheet.specs.Phrases as words
-
--- a word and a number, as "rounds 1"
-abbrev pub countLine : List ℕ → ℕ → List ℕ
-countLine word n = line (word ∷ decimal n ∷ [])
 
 -- "TRA-AWARD release 1 rules 1": the engine's own release and rule edition
 abbrev pub titleLine : List ℕ

@@ -1,5 +1,4 @@
 // The lines of the bids that won.
-use crate::fields;
 use market::engine::Engine;
 ghost use mathlib.Core.Path.{_≡_};
 ghost use mathlib.Core.Bool.{true};
@@ -32,7 +31,7 @@ fn put_award_line(
     let won = answers[first + 2];
     let charge = answers[first + 3];
     let row = [header.bidder as u64, header.path as u64, won, charge];
-    fields::put_numbers(out, at, &row, fields::NEWLINE)
+    writing::put_numbers(out, at, &row, fields::NEWLINE)
 }
 
 // The line of a bid where it won, and nothing where it did not.

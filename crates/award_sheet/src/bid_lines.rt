@@ -1,5 +1,4 @@
 // The lines of a round's bids.
-use crate::fields;
 use market::engine::Engine;
 ghost use mathlib.Core.Path.{_≡_};
 ghost use mathlib.Core.Bool.{true};
@@ -9,8 +8,8 @@ ghost use lib.ListN.{length};
 ghost use Rattle.market.specs.Limits.{pathLimit, headerWords, bidListWords, bidLimit, bidAnswerSize, bidAnswerWords};
 ghost use Rattle.text.specs.Decimal.{decimal};
 ghost use Rattle.text.specs.Put.{putAt};
-ghost use Rattle.lines.specs.Fields.{line, space};
-ghost use Rattle.lines.proofs.FieldLaws.{numbersText};
+ghost use Rattle.fields.specs.Fields.{line, space};
+ghost use Rattle.fields.proofs.FieldLaws.{numbersText};
 ghost use Rattle.bids.proofs.Walk.{soundList};
 ghost use Rattle.bids.specs.Bids.{bidAt, bidsOf};
 ghost use Rattle.round.specs.Answers.{markIn, valueIn};
@@ -23,9 +22,9 @@ fn put_mark(out: &mut [u8], at: usize, mark: u64) -> usize
     ensures bytes { λ _. ⌜ now (out .exit) ≡ putAt (now (out .entry)) at (markWord mark ++ (space ∷ [])) ⌝ }
 {
     if mark == Engine::ADMITTED as u64 {
-        return fields::put_word(out, at, b"admitted", fields::SPACE);
+        return writing::put_word(out, at, b"admitted", fields::SPACE);
     }
-    fields::put_word(out, at, b"over", fields::SPACE)
+    writing::put_word(out, at, b"over", fields::SPACE)
 }
 
 // A bid's mark and value, which end its line.
@@ -37,7 +36,7 @@ fn put_bid_answer(out: &mut [u8], at: usize, answers: &[u64], bid: usize) -> usi
 {
     let row = bid * Engine::BID_ANSWER_SIZE;
     let marked = put_mark(out, at, answers[row]);
-    fields::put_field(out, marked, answers[row + 1], fields::NEWLINE)
+    writing::put_field(out, marked, answers[row + 1], fields::NEWLINE)
 }
 
 // A bid's place among the bids, its bidder and its path.
@@ -50,7 +49,7 @@ fn put_bid_named(out: &mut [u8], at: usize, words: &[u32], place: usize, bid: us
 {
     let header = bids::header_at(words, place);
     let row = [(bid + 1) as u64, header.bidder as u64, header.path as u64];
-    fields::put_numbers(out, at, &row, fields::SPACE)
+    writing::put_numbers(out, at, &row, fields::SPACE)
 }
 
 // The line of a bid, whose words stand at a place.

@@ -2,7 +2,6 @@
 mod award_lines;
 mod bid_lines;
 pub mod bidder_lines;
-mod fields;
 mod path_lines;
 pub mod refusals;
 pub mod round_lines;

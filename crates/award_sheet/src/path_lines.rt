@@ -1,5 +1,4 @@
 // The lines of a round's paths.
-use crate::fields;
 use market::engine::Engine;
 ghost use mathlib.Core.Path.{_≡_};
 ghost use mathlib.Core.List.{_++_, _∷_, []};
@@ -7,7 +6,7 @@ ghost use Prim.Native.Nat.{_+_, _*_, _≤_, _<_};
 ghost use lib.ListN.{length};
 ghost use Rattle.market.specs.Limits.{pathLimit, pathAnswerWords};
 ghost use Rattle.text.specs.Put.{putAt};
-ghost use Rattle.lines.specs.Fields.{newline};
+ghost use Rattle.fields.specs.Fields.{newline};
 ghost use Rattle.award_sheet.specs.AwardSheet.{priceField, pathLine, pathLines};
 
 // A price, or "-" where there is none, at the end of its line.
@@ -17,9 +16,9 @@ fn put_price(out: &mut [u8], at: usize, price: u64) -> usize
     ensures bytes { λ _. ⌜ now (out .exit) ≡ putAt (now (out .entry)) at (priceField price ++ (newline ∷ [])) ⌝ }
 {
     if price == 0 {
-        return fields::put_word(out, at, b"-", fields::NEWLINE);
+        return writing::put_word(out, at, b"-", fields::NEWLINE);
     }
-    fields::put_field(out, at, price, fields::NEWLINE)
+    writing::put_field(out, at, price, fields::NEWLINE)
 }
 
 // The line of a path: its number, offered, sold, price.
@@ -34,7 +33,7 @@ fn put_path_line(out: &mut [u8], at: usize, results: &[u64], path: usize) -> usi
     let offered = results[first];
     let sold = results[first + 1];
     let row = [path as u64, offered, sold];
-    let next = fields::put_numbers(out, at, &row, fields::SPACE);
+    let next = writing::put_numbers(out, at, &row, fields::SPACE);
     put_price(out, next, results[first + 2])
 }
 

@@ -1,7 +1,6 @@
 // A round as it was answered: its bids, its paths and its awards, each after their count.
 use crate::award_lines;
 use crate::bid_lines;
-use crate::fields;
 use crate::path_lines;
 use crate::walks;
 ghost use mathlib.Core.Path.{_≡_};
@@ -25,7 +24,7 @@ fn put_bids_part(out: &mut [u8], at: usize, words: &[u32], answers: &[u64]) -> u
     ensures bytes { λ _. ⌜ now (out .exit) ≡ putAt (now (out .entry)) at (bidsPart (now (answers .entry)) (bidsOf (now (words .entry)))) ⌝ }
 {
     let count = walks::bid_count(words);
-    let next = fields::put_count(out, at, b"bids", count as u64);
+    let next = writing::put_count(out, at, b"bids", count as u64);
     bid_lines::put_bid_lines(out, next, words, answers)
 }
 
@@ -37,7 +36,7 @@ fn put_paths_part(out: &mut [u8], at: usize, results: &[u64], paths: usize) -> u
     ensures place { λ r. ⌜ r ≡ at + length (pathsPart (now (results .entry)) paths) ⌝ }
     ensures bytes { λ _. ⌜ now (out .exit) ≡ putAt (now (out .entry)) at (pathsPart (now (results .entry)) paths) ⌝ }
 {
-    let next = fields::put_count(out, at, b"paths", paths as u64);
+    let next = writing::put_count(out, at, b"paths", paths as u64);
     path_lines::put_path_lines(out, next, results, paths)
 }
 
@@ -51,7 +50,7 @@ fn put_awards_part(out: &mut [u8], at: usize, words: &[u32], answers: &[u64]) ->
     ensures bytes { λ _. ⌜ now (out .exit) ≡ putAt (now (out .entry)) at (awardsPart (now (answers .entry)) (bidsOf (now (words .entry)))) ⌝ }
 {
     let count = walks::winner_count(words, answers);
-    let next = fields::put_count(out, at, b"awards", count as u64);
+    let next = writing::put_count(out, at, b"awards", count as u64);
     award_lines::put_award_lines(out, next, words, answers)
 }
 

@@ -2,8 +2,8 @@ use borrow.Author.Needs.{needs}
 use mathlib.Core.Path.{refl}
 use mathlib.Core.List.{[]}
 use Rattle.bids.specs.Bids.{bidAt}
+use Rattle.writing.proofs.PutLaws.{written-none, written-fits, written-on, written-done}
 use Rattle.award_sheet.specs.AwardSheet.{awardLine, awardPart}
-use Rattle.award_sheet.proofs.PutLaws.{written-none, written-fits, written-on, written-done}
 use Rattle.award_sheet.proofs.LineLaws.{award-won, award-lost}
 use Rattle.award_sheet.proofs.award_lines.put_award.Statement.{statement}
 use Rattle.award_sheet.proofs.award_lines.put_award.Tie as tie

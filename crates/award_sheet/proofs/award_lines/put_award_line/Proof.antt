@@ -2,14 +2,14 @@ use borrow.Author.Needs.{needs}
 use mathlib.Core.Path.{refl, sym, _∙_, ap}
 use mathlib.Core.List.{List, [], _∷_, _++_}
 use Prim.Native.Nat.{ℕ}
-use Rattle.lines.specs.Fields.{newline}
-use Rattle.lines.proofs.FieldLaws.{numbersText}
+use Rattle.fields.specs.Fields.{newline}
+use Rattle.fields.proofs.FieldLaws.{numbersText}
 use Rattle.bids.specs.Bids.{bidAt, headerAt}
 use Rattle.bids.specs.declared.Header.{Header}
 use Rattle.round.specs.Answers.{wonIn, chargeIn}
+use Rattle.writing.proofs.PutLaws.{written-none, written-fits, written-on, written-done}
+use Rattle.writing.proofs.PieceLaws.{line-alone}
 use Rattle.award_sheet.specs.AwardSheet.{awardLine}
-use Rattle.award_sheet.proofs.PutLaws.{written-none, written-fits, written-on, written-done}
-use Rattle.award_sheet.proofs.LineLaws.{line-alone}
 use Rattle.award_sheet.proofs.award_lines.put_award_line.Statement.{statement}
 use Rattle.award_sheet.proofs.award_lines.put_award_line.Tie as tie
 

@@ -1,11 +1,11 @@
 use borrow.Author.Needs.{needs}
 use mathlib.Core.List.{[], _∷_, _++_}
-use Rattle.lines.specs.Fields.{space, newline}
-use Rattle.lines.proofs.FieldLaws.{fieldText}
+use Rattle.fields.specs.Fields.{space, newline}
+use Rattle.fields.proofs.FieldLaws.{fieldText}
 use Rattle.round.specs.Answers.{markIn, valueIn}
+use Rattle.writing.proofs.PutLaws.{written-none, written-room, written-fits, written-on, written-all}
+use Rattle.writing.proofs.PieceLaws.{field-piece}
 use Rattle.award_sheet.specs.AwardSheet.{markWord}
-use Rattle.award_sheet.proofs.PutLaws.{written-none, written-room, written-fits, written-on, written-all}
-use Rattle.award_sheet.proofs.LineLaws.{field-piece}
 use Rattle.award_sheet.proofs.bid_lines.put_bid_answer.Statement.{statement}
 use Rattle.award_sheet.proofs.bid_lines.put_bid_answer.Tie as tie
 

@@ -3,13 +3,13 @@ use native.Mathlib.Omega.{arith}
 use mathlib.Core.List.{[], _∷_}
 use Prim.Native.Nat.{_+_}
 use Rattle.text.specs.Decimal.{decimal}
-use Rattle.lines.specs.Fields.{line, space}
-use Rattle.lines.proofs.FieldLaws.{numbersText}
+use Rattle.fields.specs.Fields.{line, space}
+use Rattle.fields.proofs.FieldLaws.{numbersText}
 use Rattle.bids.specs.Bids.{bidAt}
 use Rattle.round.specs.Answers.{markIn, valueIn}
+use Rattle.writing.proofs.PutLaws.{written-none, written-room, written-fits, written-on, written-all}
+use Rattle.writing.proofs.PieceLaws.{three-pieces}
 use Rattle.award_sheet.specs.AwardSheet.{markWord, bidLine}
-use Rattle.award_sheet.proofs.PutLaws.{written-none, written-room, written-fits, written-on, written-all}
-use Rattle.award_sheet.proofs.LineLaws.{three-pieces}
 use Rattle.award_sheet.proofs.bid_lines.put_bid_line.Statement.{statement}
 use Rattle.award_sheet.proofs.bid_lines.put_bid_line.Tie as tie
 

@@ -4,8 +4,8 @@ use Prim.Native.Nat.{_-_}
 use lib.ListN.{length}
 use Rattle.market.specs.Limits.{pathLimit}
 use Rattle.bids.proofs.Walk.{bid-below}
+use Rattle.writing.proofs.PutLaws.{written-same}
 use Rattle.award_sheet.specs.AwardSheet.{bidLine, bidLines}
-use Rattle.award_sheet.proofs.PutLaws.{written-same}
 use Rattle.award_sheet.proofs.WalkLaws.{bid-whole, LinesTo, lines-start, lines-done, lines-fit, lines-on}
 use Rattle.award_sheet.proofs.bid_lines.put_bid_lines.Statement.{statement}
 use Rattle.award_sheet.proofs.bid_lines.put_bid_lines.Tie as tie

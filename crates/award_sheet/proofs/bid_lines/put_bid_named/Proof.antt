@@ -2,11 +2,11 @@ use borrow.Author.Needs.{needs}
 use mathlib.Core.Path.{refl, sym, _∙_, ap}
 use mathlib.Core.List.{List, [], _∷_, append-nil}
 use Prim.Native.Nat.{ℕ, _+_}
-use Rattle.lines.specs.Fields.{space}
-use Rattle.lines.proofs.FieldLaws.{numbersText}
+use Rattle.fields.specs.Fields.{space}
+use Rattle.fields.proofs.FieldLaws.{numbersText}
 use Rattle.bids.specs.Bids.{bidAt}
 use Rattle.bids.specs.declared.Header.{Header}
-use Rattle.award_sheet.proofs.PutLaws.{written-none, written-fits, written-on, written-done}
+use Rattle.writing.proofs.PutLaws.{written-none, written-fits, written-on, written-done}
 use Rattle.award_sheet.proofs.bid_lines.put_bid_named.Statement.{statement}
 use Rattle.award_sheet.proofs.bid_lines.put_bid_named.Tie as tie
 

@@ -1,10 +1,10 @@
 use borrow.Author.Needs.{needs}
 use mathlib.Core.Path.{refl}
 use mathlib.Core.List.{[], _∷_, _++_}
-use Rattle.lines.specs.Fields.{space}
+use Rattle.fields.specs.Fields.{space}
+use Rattle.writing.proofs.PutLaws.{written-none, written-fits, written-on, written-done}
 use Rattle.award_sheet.specs.AwardSheet.{markWord}
 use Rattle.award_sheet.specs.Phrases.{admittedWord, overWord}
-use Rattle.award_sheet.proofs.PutLaws.{written-none, written-fits, written-on, written-done}
 use Rattle.award_sheet.proofs.LineLaws.{mark-admitted, mark-over}
 use Rattle.award_sheet.proofs.bid_lines.put_mark.Statement.{statement}
 use Rattle.award_sheet.proofs.bid_lines.put_mark.Tie as tie

@@ -1,11 +1,11 @@
 use borrow.Author.Needs.{needs}
 use mathlib.Core.List.{[], _∷_, _++_}
-use Rattle.lines.specs.Fields.{space, newline}
-use Rattle.lines.proofs.FieldLaws.{numbersText}
+use Rattle.fields.specs.Fields.{space, newline}
+use Rattle.fields.proofs.FieldLaws.{numbersText}
 use Rattle.round.specs.Answers.{offeredIn, soldIn, priceIn}
+use Rattle.writing.proofs.PutLaws.{written-none, written-room, written-fits, written-on, written-all}
+use Rattle.writing.proofs.PieceLaws.{three-pieces}
 use Rattle.award_sheet.specs.AwardSheet.{priceField, pathLine}
-use Rattle.award_sheet.proofs.PutLaws.{written-none, written-room, written-fits, written-on, written-all}
-use Rattle.award_sheet.proofs.LineLaws.{three-pieces}
 use Rattle.award_sheet.proofs.path_lines.put_path_line.Statement.{statement}
 use Rattle.award_sheet.proofs.path_lines.put_path_line.Tie as tie
 

@@ -2,8 +2,8 @@ use borrow.Author.Needs.{needs}
 use mathlib.Core.Path.{subst}
 use mathlib.Core.List.{List}
 use Prim.Native.Nat.{ℕ, _+_, _-_, _≤_}
+use Rattle.writing.proofs.PutLaws.{WrittenTo, written-none, written-same, written-fits, written-on, written-done}
 use Rattle.award_sheet.specs.AwardSheet.{pathLine, pathLines}
-use Rattle.award_sheet.proofs.PutLaws.{WrittenTo, written-none, written-same, written-fits, written-on, written-done}
 use Rattle.award_sheet.proofs.LineLaws.{pathsFrom, paths-all, paths-next, paths-none}
 use Rattle.award_sheet.proofs.path_lines.put_path_lines.Statement.{statement}
 use Rattle.award_sheet.proofs.path_lines.put_path_lines.Tie as tie

@@ -1,11 +1,11 @@
 use borrow.Author.Needs.{needs}
 use mathlib.Core.Path.{refl}
 use mathlib.Core.List.{[], _∷_, _++_}
-use Rattle.lines.specs.Fields.{newline}
-use Rattle.lines.proofs.FieldLaws.{fieldText}
+use Rattle.fields.specs.Fields.{newline}
+use Rattle.fields.proofs.FieldLaws.{fieldText}
+use Rattle.writing.proofs.PutLaws.{written-none, written-fits, written-on, written-done}
 use Rattle.award_sheet.specs.AwardSheet.{priceField}
 use Rattle.award_sheet.specs.Phrases.{noPrice}
-use Rattle.award_sheet.proofs.PutLaws.{written-none, written-fits, written-on, written-done}
 use Rattle.award_sheet.proofs.LineLaws.{price-none, price-some}
 use Rattle.award_sheet.proofs.path_lines.put_price.Statement.{statement}
 use Rattle.award_sheet.proofs.path_lines.put_price.Tie as tie

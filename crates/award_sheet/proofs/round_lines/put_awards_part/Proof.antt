@@ -2,10 +2,11 @@ use borrow.Author.Needs.{needs}
 use mathlib.Core.Path.{sym, ap}
 use mathlib.Core.List.{_++_}
 use Prim.Native.Nat.{ℕ}
+use Rattle.fields.specs.Fields.{countLine}
 use Rattle.bids.specs.Bids.{bidsOf}
-use Rattle.award_sheet.specs.AwardSheet.{countLine, awardLines, awardsPart}
+use Rattle.writing.proofs.PutLaws.{written-none, written-room, written-fits, written-on, written-all}
+use Rattle.award_sheet.specs.AwardSheet.{awardLines, awardsPart}
 use Rattle.award_sheet.specs.Phrases.{awardsWord}
-use Rattle.award_sheet.proofs.PutLaws.{written-none, written-room, written-fits, written-on, written-all}
 use Rattle.award_sheet.proofs.round_lines.put_awards_part.Statement.{statement}
 use Rattle.award_sheet.proofs.round_lines.put_awards_part.Tie as tie
 

@@ -2,11 +2,12 @@ use borrow.Author.Needs.{needs}
 use mathlib.Core.Path.{sym, ap}
 use mathlib.Core.List.{_++_}
 use Prim.Native.Nat.{ℕ}
+use Rattle.fields.specs.Fields.{countLine}
 use Rattle.lines.specs.Lines.{partWord}
 use Rattle.lines.specs.declared.part.Part.the-variants.{Bids}
 use Rattle.bids.specs.Bids.{bidsOf}
-use Rattle.award_sheet.specs.AwardSheet.{countLine, bidLines, bidsPart}
-use Rattle.award_sheet.proofs.PutLaws.{written-none, written-room, written-fits, written-on, written-all}
+use Rattle.writing.proofs.PutLaws.{written-none, written-room, written-fits, written-on, written-all}
+use Rattle.award_sheet.specs.AwardSheet.{bidLines, bidsPart}
 use Rattle.award_sheet.proofs.round_lines.put_bids_part.Statement.{statement}
 use Rattle.award_sheet.proofs.round_lines.put_bids_part.Tie as tie
 

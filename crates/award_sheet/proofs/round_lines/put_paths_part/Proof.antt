@@ -1,9 +1,10 @@
 use borrow.Author.Needs.{needs}
 use mathlib.Core.Path.{refl}
+use Rattle.fields.specs.Fields.{countLine}
 use Rattle.lines.specs.Lines.{partWord}
 use Rattle.lines.specs.declared.part.Part.the-variants.{Paths}
-use Rattle.award_sheet.specs.AwardSheet.{countLine, pathLines, pathsPart}
-use Rattle.award_sheet.proofs.PutLaws.{written-none, written-room, written-fits, written-on, written-all}
+use Rattle.writing.proofs.PutLaws.{written-none, written-room, written-fits, written-on, written-all}
+use Rattle.award_sheet.specs.AwardSheet.{pathLines, pathsPart}
 use Rattle.award_sheet.proofs.round_lines.put_paths_part.Statement.{statement}
 use Rattle.award_sheet.proofs.round_lines.put_paths_part.Tie as tie
 

@@ -2,8 +2,8 @@ use borrow.Author.Needs.{needs}
 use mathlib.Core.Path.{refl}
 use mathlib.Core.List.{_++_}
 use Rattle.bids.specs.Bids.{bidsOf}
+use Rattle.writing.proofs.PutLaws.{written-none, written-room, written-fits, written-on, written-all}
 use Rattle.award_sheet.specs.AwardSheet.{bidsPart, pathsPart, awardsPart, roundText, RoundMade}
-use Rattle.award_sheet.proofs.PutLaws.{written-none, written-room, written-fits, written-on, written-all}
 use Rattle.award_sheet.proofs.LineLaws.{round-pieces}
 use Rattle.award_sheet.proofs.round_lines.put_round.Statement.{statement}
 use Rattle.award_sheet.proofs.round_lines.put_round.Tie as tie
