@@ -1,3 +1,2 @@
 -- Laws about writing an award sheet.
-pub mod LineLaws
-pub mod WalkLaws
+pub mod BidderLaws

@@ -40,10 +40,10 @@ use Rattle.writer.proofs.Writer as T
 use Rattle.writer.proofs.Buffer.{spot}
 use Rattle.writer.proofs.Lent as lent
 use Rattle.writer.proofs.Lent.{Loan}
-use Rattle.award_sheet.proofs.round_lines.put_round as put
-use Rattle.award_sheet.proofs.round_lines.put_round.Symbol as put-def
-use Rattle.award_sheet.proofs.round_lines.put_round.Symbol.{name as #put}
-use Rattle.award_sheet.proofs.round_lines.put_round.Met as put-thm
+use Rattle.round_lines.proofs.put_round as put
+use Rattle.round_lines.proofs.put_round.Symbol as put-def
+use Rattle.round_lines.proofs.put_round.Symbol.{name as #put}
+use Rattle.round_lines.proofs.put_round.Met as put-thm
 use Rattle.writer.proofs.round.Key.{name as #writer·round}
 use Rattle.writer.proofs.round as round
 use Rattle.writer.proofs.round.Statement as stated
