@@ -24,9 +24,9 @@ pub fn put_word(out: &mut [u8], at: usize, word: &[u8], stop: u8) -> usize
     ensures place { λ r. ⌜ r ≡ at + length (now (word .entry) ++ (stop ∷ [])) ⌝ }
     ensures bytes { λ _. ⌜ now (out .exit) ≡ putAt (now (out .entry)) at (now (word .entry) ++ (stop ∷ [])) ⌝ }
 {
-    let end = text::put_bytes(out, at, word);
-    out[end] = stop;
-    end + 1
+    let next = text::put_bytes(out, at, word);
+    out[next] = stop;
+    next + 1
 }
 
 // Numbers with a space between them, the last ended by another byte.
