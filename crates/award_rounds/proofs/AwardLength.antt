@@ -16,14 +16,16 @@ use Rattle.market.specs.declared.book.Bidder.{Bidder}
 use Rattle.market.specs.declared.book.Book.{Book}
 use Rattle.text.proofs.DecimalLaws.{decimal-length}
 use Rattle.text.specs.Decimal.{decimal}
-use Rattle.lines.specs.Fields.{newline, space, line}
+use Rattle.fields.specs.Fields.{newline, space, line, countLine}
 use Rattle.lines.specs.Lines.{partWord}
 use Rattle.lines.specs.declared.part.Part.the-variants.{Bidders, Paths, Bids}
 use Rattle.bids.specs.Bids.{Bid}
 use Rattle.awards.proofs.RoundLots.{EachBid}
 use Rattle.round.specs.Answers.{markIn, valueIn, wonIn, chargeIn, offeredIn, soldIn, priceIn}
-use Rattle.award_sheet.specs.AwardSheet.{countLine, titleLine, markWord, bidLine, bidLines, priceField, pathLine, pathLines, awardLine, awardLines, winners, RoundMade, roundText, roundsText, isBidder, bidderLine, bidderLines, awardText, formRefusal, refusedLine, refusedText}
-use Rattle.award_sheet.specs.Phrases as words
+use Rattle.round_lines.specs.RoundLines.{markWord, bidLine, bidLines, priceField, pathLine, pathLines, awardLine, awardLines, winners, RoundMade, roundText}
+use Rattle.round_lines.specs.Phrases.{awardsWord, admittedWord, overWord, noPrice}
+use Rattle.award_sheet.specs.AwardSheet.{titleLine, roundsText, isBidder, bidderLine, bidderLines, awardText, formRefusal, refusedLine, refusedText}
+use Rattle.award_sheet.specs.Phrases.{roundsWord, refusedWord, lineWord}
 
 -- ---- A line
 
@@ -59,7 +61,7 @@ pub record PathSizes (results : List ℕ) (path : ℕ) : Type 0 where
 mark-size : (mark : ℕ) → length (markWord mark) ≤ 8
 mark-size mark = go (eqb mark admitted)
   where
-    go : (t : Bool) → length (cond t words.admittedWord words.overWord) ≤ 8
+    go : (t : Bool) → length (cond t admittedWord overWord) ≤ 8
     go true = omega arith
     go false = omega arith
 
@@ -89,7 +91,7 @@ award-size answers bid b s =
 price-size : (price : ℕ) → price < 10 ^ 9 → length (priceField price) ≤ 9
 price-size price small = go (eqb price 0)
   where
-    go : (t : Bool) → length (cond t words.noPrice (decimal price)) ≤ 9
+    go : (t : Bool) → length (cond t noPrice (decimal price)) ≤ 9
     go true = omega arith
     go false = digits 9 price (omega arith) (omega arith) small
 
@@ -156,7 +158,7 @@ round-size paths r s =
     let b = bidLines (r .answers) 0 (r .bids) in
     let c = countLine (partWord Paths) paths in
     let d = pathLines (r .results) paths in
-    let e = countLine words.awardsWord (winners (r .answers) 0 (r .bids)) in
+    let e = countLine awardsWord (winners (r .answers) 0 (r .bids)) in
     let f = awardLines (r .answers) 0 (r .bids) in
     omega (
       arith,
@@ -167,7 +169,7 @@ round-size paths r s =
       length-append e f,
       count-size (partWord Bids) 3 (length (r .bids)) (omega arith) (omega arith) (omega (arith, s .few)),
       count-size (partWord Paths) 2 paths (omega arith) (omega arith) (omega (arith, s .few-paths)),
-      count-size words.awardsWord 3 (winners (r .answers) 0 (r .bids)) (omega arith) (omega arith) (omega (arith, s .few, winners-few (r .answers) 0 (r .bids))),
+      count-size awardsWord 3 (winners (r .answers) 0 (r .bids)) (omega arith) (omega arith) (omega (arith, s .few, winners-few (r .answers) 0 (r .bids))),
       bids-size (r .answers) 0 (r .bids) (s .bids),
       awards-size (r .answers) 0 (r .bids) (s .bids),
       paths-size (r .results) paths (s .each),
@@ -220,7 +222,7 @@ pub award-fits : (rounds : List RoundMade) (b : Book) (listed : List ℕ) → le
 unfolding awardText
 award-fits rounds b listed two each sound few all =
     let t = titleLine in
-    let r = countLine words.roundsWord (length rounds) in
+    let r = countLine roundsWord (length rounds) in
     let m = roundsText (b .«path_count») rounds in
     let c = countLine (partWord Bidders) (length listed) in
     let l = bidderLines b listed in
@@ -231,7 +233,7 @@ award-fits rounds b listed two each sound few all =
       length-append t r,
       length-append c l,
       title-size,
-      count-size words.roundsWord 1 (length rounds) (omega arith) (omega arith) (omega (arith, two)),
+      count-size roundsWord 1 (length rounds) (omega arith) (omega arith) (omega (arith, two)),
       count-size (partWord Bidders) 2 (length listed) (omega arith) (omega arith) (omega (arith, few)),
       rounds-size (b .«path_count») rounds each,
       bidders-size b listed sound all,
@@ -242,13 +244,13 @@ award-fits rounds b listed two each sound few all =
 -- so do the lines that stand in its place
 pub refused-fits : (number : ℕ) → number < 2 ^ 32 → length (refusedText number) ≤ awardSheetBytes
 refused-fits number small =
-    omega (arith, count-size words.refusedWord 10 number (omega arith) (omega arith) (omega (arith, small)))
+    omega (arith, count-size refusedWord 10 number (omega arith) (omega arith) (omega (arith, small)))
 
 pub faulty-fits : (at : ℕ) → at < 2 ^ 32 → length (refusedLine formRefusal at) ≤ awardSheetBytes
 faulty-fits at small =
     omega (
       arith,
-      line-size words.refusedWord (decimal formRefusal ∷ words.lineWord ∷ decimal at ∷ []),
+      line-size refusedWord (decimal formRefusal ∷ lineWord ∷ decimal at ∷ []),
       digits 2 formRefusal (omega arith) (omega arith) (omega arith),
       digits 10 at (omega arith) (omega arith) (omega (arith, small)),
     )

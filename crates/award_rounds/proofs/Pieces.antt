@@ -6,8 +6,9 @@ use native.Mathlib.Omega.{arith}
 use lib.ListN.{length}
 use Rattle.market.specs.declared.book.Book.{Book}
 use Rattle.text.specs.Put.{putAt}
-use Rattle.award_sheet.proofs.PutLaws.{WrittenTo, written-none, written-all}
-use Rattle.award_sheet.specs.AwardSheet.{RoundMade, titleText, roundText, roundsText, biddersText, awardText}
+use Rattle.writing.proofs.PutLaws.{WrittenTo, written-none, written-all}
+use Rattle.round_lines.specs.RoundLines.{RoundMade, roundText}
+use Rattle.award_sheet.specs.AwardSheet.{titleText, roundsText, biddersText, awardText}
 
 pub award-pieces : (rounds : List RoundMade) (b : Book) (listed : List ℕ) → awardText rounds b listed ≡ titleText (length rounds) ++ (roundsText (b .«path_count») rounds ++ biddersText b listed)
 unfolding awardText

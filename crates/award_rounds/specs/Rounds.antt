@@ -7,7 +7,7 @@ use lib.ListN.{length}
 use Rattle.market.specs.Limits.{pathLimit, bidListWords, bidAnswerWords, pathAnswerWords}
 use Rattle.bids.proofs.Walk.{soundList}
 use Rattle.bids.specs.Bids.{bidsOf}
-use Rattle.award_sheet.specs.AwardSheet.{RoundMade}
+use Rattle.round_lines.specs.RoundLines.{RoundMade}
 
 abbrev pub made : List ℕ → List ℕ → List ℕ → RoundMade
 made bids answers results = record { bids = bidsOf bids; answers = answers; results = results }

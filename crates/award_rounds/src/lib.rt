@@ -2,7 +2,6 @@
 pub mod refusals;
 
 use award_sheet::bidder_lines;
-use award_sheet::round_lines;
 use award_sheet::title;
 use market::book::Book;
 ghost use mathlib.Core.Path.{_≡_};

@@ -1,4 +1,2 @@
 -- Laws about writing an award sheet.
-pub mod LineLaws
-pub mod PutLaws
-pub mod WalkLaws
+pub mod BidderLaws

@@ -1,25 +1,19 @@
--- Document 01, "The whole output", "Per round: place, bidder, path, admitted or over, bid value; path, offered, sold, price or "-"; in bid order
--- bidder, path, MW, charge. Then, for each bidder listed, bidder, cash, applied, letter, hold, owed."
-use mathlib.Core.Bool.{Bool, cond}
+-- Document 01, "The whole output": the rounds, "Then, for each bidder listed, bidder, cash, applied, letter, hold, owed."
+use mathlib.Core.Bool.{Bool}
 use mathlib.Core.List.{List, [], _∷_, _++_}
-use Prim.Native.Nat.{ℕ, zero, suc, _+_}
-use lib.Dec.{eqb, ltb}
+use Prim.Native.Nat.{ℕ}
+use lib.Dec.{ltb}
 use lib.ListN.{length}
 use Rattle.market.specs.Books.{bidderOf}
-use Rattle.market.specs.Limits.{release, ruleEdition, admitted, bidderLimit}
+use Rattle.market.specs.Limits.{release, ruleEdition, bidderLimit}
 use Rattle.market.specs.declared.book.Bidder.{Bidder}
 use Rattle.market.specs.declared.book.Book.{Book}
 use Rattle.text.specs.Decimal.{decimal}
-use Rattle.lines.specs.Fields.{line, numbersLine}
+use Rattle.fields.specs.Fields.{line, numbersLine, countLine}
 use Rattle.lines.specs.Lines.{partWord}
-use Rattle.lines.specs.declared.part.Part.the-variants.{Bidders, Paths, Bids}
-use Rattle.bids.specs.Bids.{Bid}
-use Rattle.round.specs.Answers.{markIn, valueIn, wonIn, chargeIn, offeredIn, soldIn, priceIn}
+use Rattle.lines.specs.declared.part.Part.the-variants.{Bidders}
+use Rattle.round_lines.specs.RoundLines.{RoundMade, roundText}
 use Rattle.award_sheet.specs.Phrases as words
-
--- a word and a number, as "rounds 1"
-abbrev pub countLine : List ℕ → ℕ → List ℕ
-countLine word n = line (word ∷ decimal n ∷ [])
 
 -- "TRA-AWARD release 1 rules 1": the engine's own release and rule edition
 abbrev pub titleLine : List ℕ
@@ -29,74 +23,7 @@ titleLine = line (words.titleWord ∷ words.releaseWord ∷ decimal release ∷ 
 abbrev pub titleText : ℕ → List ℕ
 titleText rounds = titleLine ++ countLine words.roundsWord rounds
 
--- ---- A round, of these bids and with these answers
-
--- "1 3 0 admitted 850000"
-abbrev pub markWord : ℕ → List ℕ
-markWord mark = cond (eqb mark admitted) words.admittedWord words.overWord
-
-abbrev pub bidLine : List ℕ → ℕ → Bid → List ℕ
-bidLine answers bid b =
-    line
-    (decimal (bid + 1)
-    ∷ decimal (b .bidder)
-    ∷ decimal (b .path)
-    ∷ markWord (markIn answers bid)
-    ∷ decimal (valueIn answers bid)
-    ∷ [])
-
-abbrev pub bidLines : List ℕ → ℕ → List Bid → List ℕ
-bidLines answers bid [] = []
-bidLines answers bid (b ∷ bs) = bidLine answers bid b ++ bidLines answers (bid + 1) bs
-
--- "0 60 60 15000", with "-" where there is no price
-abbrev pub priceField : ℕ → List ℕ
-priceField price = cond (eqb price 0) words.noPrice (decimal price)
-
-abbrev pub pathLine : List ℕ → ℕ → List ℕ
-pathLine results path =
-    line
-    (decimal path ∷ decimal (offeredIn results path) ∷ decimal (soldIn results path) ∷ priceField (priceIn results path) ∷ [])
-
--- the first so many paths
-abbrev pub pathLines : List ℕ → ℕ → List ℕ
-pathLines results zero = []
-pathLines results (suc n) = pathLines results n ++ pathLine results n
-
--- "3 0 50 750000", of the bids that won
-abbrev pub awardLine : List ℕ → ℕ → Bid → List ℕ
-awardLine answers bid b = numbersLine (b .bidder ∷ b .path ∷ wonIn answers bid ∷ chargeIn answers bid ∷ [])
-
-abbrev pub awardPart : List ℕ → ℕ → Bid → List ℕ
-awardPart answers bid b = cond (ltb 0 (wonIn answers bid)) (awardLine answers bid b) []
-
-abbrev pub awardLines : List ℕ → ℕ → List Bid → List ℕ
-awardLines answers bid [] = []
-awardLines answers bid (b ∷ bs) = awardPart answers bid b ++ awardLines answers (bid + 1) bs
-
--- how many bids won
-abbrev pub winners : List ℕ → ℕ → List Bid → ℕ
-winners answers bid [] = 0
-winners answers bid (b ∷ bs) = cond (ltb 0 (wonIn answers bid)) 1 0 + winners answers (bid + 1) bs
-
--- a round as it was answered: its bids, and the lists for bids and for paths
-pub record RoundMade : Type 0 where
-  pub bids : List Bid
-  pub answers : List ℕ
-  pub results : List ℕ
-
--- its bids, its paths and its awards, each after their count
-abbrev pub bidsPart : List ℕ → List Bid → List ℕ
-bidsPart answers bids = countLine (partWord Bids) (length bids) ++ bidLines answers 0 bids
-
-abbrev pub pathsPart : List ℕ → ℕ → List ℕ
-pathsPart results paths = countLine (partWord Paths) paths ++ pathLines results paths
-
-abbrev pub awardsPart : List ℕ → List Bid → List ℕ
-awardsPart answers bids = countLine words.awardsWord (winners answers 0 bids) ++ awardLines answers 0 bids
-
-unfoldable pub roundText : ℕ → RoundMade → List ℕ
-roundText paths r = bidsPart (r .answers) (r .bids) ++ pathsPart (r .results) paths ++ awardsPart (r .answers) (r .bids)
+-- ---- The rounds, one after the other
 
 abbrev pub roundsText : ℕ → List RoundMade → List ℕ
 roundsText paths [] = []

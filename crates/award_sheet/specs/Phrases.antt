@@ -18,22 +18,6 @@ rulesWord = 114 ∷ 117 ∷ 108 ∷ 101 ∷ 115 ∷ []
 abbrev pub roundsWord : List ℕ
 roundsWord = 114 ∷ 111 ∷ 117 ∷ 110 ∷ 100 ∷ 115 ∷ []
 
--- "awards"
-abbrev pub awardsWord : List ℕ
-awardsWord = 97 ∷ 119 ∷ 97 ∷ 114 ∷ 100 ∷ 115 ∷ []
-
--- "admitted"
-abbrev pub admittedWord : List ℕ
-admittedWord = 97 ∷ 100 ∷ 109 ∷ 105 ∷ 116 ∷ 116 ∷ 101 ∷ 100 ∷ []
-
--- "over"
-abbrev pub overWord : List ℕ
-overWord = 111 ∷ 118 ∷ 101 ∷ 114 ∷ []
-
--- "-"
-abbrev pub noPrice : List ℕ
-noPrice = 45 ∷ []
-
 -- "refused"
 abbrev pub refusedWord : List ℕ
 refusedWord = 114 ∷ 101 ∷ 102 ∷ 117 ∷ 115 ∷ 101 ∷ 100 ∷ []

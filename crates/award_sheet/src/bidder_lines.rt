@@ -1,5 +1,4 @@
 // The lines of the bidders that are listed.
-use crate::fields;
 use market::book::Bidder;
 use market::book::Book;
 ghost use mathlib.Core.Path.{_≡_};
@@ -22,7 +21,7 @@ fn put_bidder_line(out: &mut [u8], at: usize, number: u32, bidder: Bidder) -> us
     let hold = bidder.hold;
     let owed = bidder.owed;
     let row = [number as u64, cash.0, applied.0, letter.0, hold.0, owed.0];
-    fields::put_numbers(out, at, &row, fields::NEWLINE)
+    writing::put_numbers(out, at, &row, fields::NEWLINE)
 }
 
 // The lines of the bidders listed, in the list's order.
@@ -47,6 +46,6 @@ pub fn put_bidders(out: &mut [u8], at: usize, book: Book, listed: &[u32]) -> usi
     ensures place { λ r. ⌜ r ≡ at + length (biddersText book (now (listed .entry))) ⌝ }
     ensures bytes { λ _. ⌜ now (out .exit) ≡ putAt (now (out .entry)) at (biddersText book (now (listed .entry))) ⌝ }
 {
-    let next = fields::put_count(out, at, b"bidders", listed.len() as u64);
+    let next = writing::put_count(out, at, b"bidders", listed.len() as u64);
     put_bidder_lines(out, next, book, listed)
 }

@@ -1,5 +1,4 @@
 // The line that is printed where no award sheet is.
-use crate::fields;
 ghost use mathlib.Core.Path.{_≡_};
 ghost use Prim.Native.Nat.{_≤_};
 ghost use lib.ListN.{length};
@@ -15,7 +14,7 @@ pub fn put_refused(out: &mut [u8], number: u32) -> usize
     ensures place { λ r. ⌜ r ≡ length (refusedText number) ⌝ }
     ensures bytes { λ _. ⌜ now (out .exit) ≡ putAt (now (out .entry)) 0 (refusedText number) ⌝ }
 {
-    fields::put_count(out, 0, b"refused", number as u64)
+    writing::put_count(out, 0, b"refused", number as u64)
 }
 
 // The refusal of a faulty sheet, with the number of its first faulty line, at the front of the buffer.
@@ -25,6 +24,6 @@ pub fn put_faulty(out: &mut [u8], line: u32) -> usize
     ensures bytes { λ _. ⌜ now (out .exit) ≡ putAt (now (out .entry)) 0 (refusedLine formRefusal line) ⌝ }
 {
     let named = text::put_bytes(out, 0, b"refused ");
-    let numbered = fields::put_field(out, named, FORM as u64, fields::SPACE);
-    fields::put_count(out, numbered, b"line", line as u64)
+    let numbered = writing::put_field(out, named, FORM as u64, fields::SPACE);
+    writing::put_count(out, numbered, b"line", line as u64)
 }

@@ -1,5 +1,4 @@
 // The first two lines of an award sheet.
-use crate::fields;
 use market::engine::Engine;
 ghost use mathlib.Core.Path.{_≡_};
 ghost use Prim.Native.Nat.{_+_, _≤_};
@@ -14,8 +13,8 @@ fn put_title_line(out: &mut [u8], at: usize) -> usize
     ensures bytes { λ _. ⌜ now (out .exit) ≡ putAt (now (out .entry)) at titleLine ⌝ }
 {
     let named = text::put_bytes(out, at, b"TRA-AWARD release ");
-    let released = fields::put_field(out, named, Engine::RELEASE as u64, fields::SPACE);
-    fields::put_count(out, released, b"rules", Engine::RULES as u64)
+    let released = writing::put_field(out, named, Engine::RELEASE as u64, fields::SPACE);
+    writing::put_count(out, released, b"rules", Engine::RULES as u64)
 }
 
 // The title, and the number of rounds.
@@ -25,5 +24,5 @@ pub fn put_title(out: &mut [u8], at: usize, rounds: usize) -> usize
     ensures bytes { λ _. ⌜ now (out .exit) ≡ putAt (now (out .entry)) at (titleText rounds) ⌝ }
 {
     let next = put_title_line(out, at);
-    fields::put_count(out, next, b"rounds", rounds as u64)
+    writing::put_count(out, next, b"rounds", rounds as u64)
 }

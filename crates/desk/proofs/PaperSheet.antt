@@ -10,7 +10,8 @@ use Rattle.round.specs.Round.{awardsNow, round, roundWords, roundBidAnswers, ro
 use Rattle.awards.specs.Awards.{awardsOf}
 use Rattle.sheets.specs.Form.{formOf}
 use Rattle.sheets.specs.Reading.{sheetIn}
-use Rattle.award_sheet.specs.AwardSheet.{roundText, awardText}
+use Rattle.round_lines.specs.RoundLines.{roundText}
+use Rattle.award_sheet.specs.AwardSheet.{awardText}
 use Rattle.preparing.specs.Preparing.{opened}
 use Rattle.round_output.specs.Rounds.{roundOf, outputFrom}
 use Rattle.desk.specs.Desk.{sheetOutput, outputOf}

@@ -1,4 +1,2 @@
--- Laws about lines: what is written is read, what is read is as it was written, and what is read at a place of a text.
-pub mod FieldLaws
-pub mod ReadLaws
+-- Laws about lines.
 pub mod LineLaws

@@ -14,12 +14,12 @@ use Rattle.market.specs.declared.book.Direction.the-variants.{Export, Import}
 use Rattle.market.specs.declared.book.Kind.the-variants.{Short, Long}
 use Rattle.text.specs.Decimal.{numberAt}
 use Rattle.text.specs.declared.Number.{Number}
-use Rattle.lines.specs.Fields.{space, newline, wordTop, amountTop, startsWith, spaced, fieldAt, both, numbersUsed}
+use Rattle.fields.specs.Fields.{space, newline, wordTop, amountTop, startsWith, spaced, fieldAt, both, numbersUsed}
+use Rattle.fields.specs.declared.Field.{Field}
+use Rattle.fields.proofs.ReadLaws.{starts-fit}
 use Rattle.lines.specs.Lines.{behind, titleWord, kindByte, isKind, kindPlace, daysPlace, titleUsed, bidderUsed, directionByte, isDirection, routeUsed, pathUsed, bidUsed, lineAt}
-use Rattle.lines.specs.declared.fields.Field.{Field}
 use Rattle.lines.specs.declared.part.Part.{Part}
 use Rattle.lines.specs.declared.part.Part.the-variants.{Bidders, Paths, Bids}
-use Rattle.lines.proofs.ReadLaws.{starts-fit}
 
 -- ---- One of two letters, and the space behind it
 

@@ -1,3 +1,2 @@
 -- The lines of a sheet, one by one.
-pub mod Fields
 pub mod Lines

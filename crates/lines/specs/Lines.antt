@@ -11,7 +11,7 @@ use Rattle.market.specs.declared.book.Direction.the-variants.{Export, Import}
 use Rattle.market.specs.declared.book.Kind.{Kind}
 use Rattle.market.specs.declared.book.Kind.the-variants.{Short, Long}
 use Rattle.text.specs.Decimal.{numberAt}
-use Rattle.lines.specs.Fields.{space, newline, wordTop, amountTop, startsWith, spaced, fieldAt, both, numbersUsed}
+use Rattle.fields.specs.Fields.{space, newline, wordTop, amountTop, startsWith, spaced, fieldAt, both, numbersUsed}
 use Rattle.lines.specs.declared.part.Part.{Part}
 use Rattle.lines.specs.declared.part.Part.the-variants.{Bidders, Paths, Bids}
 use Rattle.lines.specs.declared.part.Step.{Step}

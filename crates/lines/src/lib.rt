@@ -1,5 +1,4 @@
 // The lines of a sheet, each read at a place of its text: the bytes that it takes, its byte 10 included, and 0 where it is faulty.
-pub mod fields;
 pub mod part;
 
 use fields::Field;
@@ -11,7 +10,7 @@ ghost use mathlib.Core.Bool.{_&&_, _||_};
 ghost use Prim.Native.Nat.{_+_, _≤_, _<_, _^_};
 ghost use lib.Dec.{eqb};
 ghost use lib.ListN.{length, getD, drop};
-ghost use Rattle.lines.specs.Fields.{space, newline, wordTop, startsWith, fieldAt, both as bothUsed};
+ghost use Rattle.fields.specs.Fields.{space, newline, wordTop, startsWith, fieldAt, both as bothUsed};
 ghost use Rattle.lines.specs.Lines.{behind, titleUsed, countUsed, countSaid, bidderUsed, routeUsed, pathUsed, bidUsed, lineAt};
 
 // The bytes of the kinds and of the directions.

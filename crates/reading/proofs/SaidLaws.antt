@@ -10,9 +10,9 @@ use Rattle.market.specs.Books.{dayNumber}
 use Rattle.market.specs.declared.book.Direction.{Direction}
 use Rattle.market.specs.declared.book.Period.{Period}
 use Rattle.market.specs.declared.book.Direction.the-variants.{Export, Import}
-use Rattle.lines.specs.Fields.{space, newline, wordTop, amountTop, fieldAt, numbersSaid}
+use Rattle.fields.specs.Fields.{space, newline, wordTop, amountTop, fieldAt, numbersSaid}
+use Rattle.fields.specs.declared.Field.{Field}
 use Rattle.lines.specs.Lines.{daysPlace, directionByte}
-use Rattle.lines.specs.declared.fields.Field.{Field}
 use Rattle.sheets.specs.declared.rows.PathLine.{PathLine}
 use Rattle.sheets.specs.Reading.{bidderOf, bidderAt, importIf, directionOf, pathOf, routeIn, pathAt, daysIn}
 use Rattle.reading.specs.declared.Word.{Word}

@@ -10,8 +10,8 @@ use lib.ListN.{length, take, drop, getD, set, replicate}
 use lib.Seq.{drop-drop, drop-cons, take-suc, take-all, length-take-le}
 use borrow.Author.Tests.{leb-true, leb-false}
 use Rattle.market.proofs.Filled.{fill-snoc}
-use Rattle.lines.proofs.ReadLaws.{field-within}
-use Rattle.lines.specs.Fields.{space, amountTop, fieldAt}
+use Rattle.fields.proofs.ReadLaws.{field-within}
+use Rattle.fields.specs.Fields.{space, amountTop, fieldAt}
 use Rattle.lines.specs.Lines.{countUsed, countSaid, lineAt}
 use Rattle.lines.specs.declared.part.Part.{Part}
 use Rattle.lines.specs.declared.part.Part.the-variants.{Bidders, Paths, Bids}

@@ -1,5 +1,4 @@
 // What the lines of a sheet's bidders and paths say, and its days.
-use lines::fields;
 use lines::part::Part;
 use market::book::Direction;
 use market::book::Period;
@@ -14,7 +13,7 @@ ghost use Prim.Native.Nat.{_+_, _≤_, min};
 ghost use lib.ListN.{length, getD, drop};
 ghost use Rattle.market.specs.Books.{dayNumber};
 ghost use Rattle.market.specs.Limits.{bidderLimit, pathLimit};
-ghost use Rattle.lines.specs.Fields.{wordTop, newline, fieldAt, numbersSaid};
+ghost use Rattle.fields.specs.Fields.{wordTop, newline, fieldAt, numbersSaid};
 ghost use Rattle.lines.specs.Lines.{daysPlace, countSaid};
 ghost use Rattle.lines.specs.declared.part.Part.the-variants.{Bidders, Paths};
 ghost use Rattle.sheets.specs.Reading.{linesIn, bidderAt, directionOf, pathOf, routeIn, pathAt, sectionSays, daysIn};

@@ -21,7 +21,8 @@ use Rattle.keeping_round.proofs.KeepRound.{round-keeps}
 use Rattle.engine.specs.Lent.{Lent, lent}
 use Rattle.promise.proofs.RoundAnswers.{opened, answers-are, results-are, same-paths}
 use Rattle.preparing.specs.Preparing.{emptyRegister}
-use Rattle.award_sheet.specs.AwardSheet.{RoundMade, isBidder, awardText, refusedText}
+use Rattle.round_lines.specs.RoundLines.{RoundMade}
+use Rattle.award_sheet.specs.AwardSheet.{isBidder, awardText, refusedText}
 use Rattle.award_rounds.specs.Rounds.{made, Answered}
 use Rattle.round_output.specs.Rounds.{Progress, answersLent, resultsLent, scratchLent, roundOf, written, ended, outputFrom}
 use Rattle.award_rounds.proofs.AwardLength.{RoundSizes, award-fits}

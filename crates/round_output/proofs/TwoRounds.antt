@@ -12,7 +12,8 @@ use Rattle.market.specs.declared.answer.Outcome.{Outcome}
 use Rattle.market.specs.declared.book.Book.{Book}
 use Rattle.keeping.specs.State.{State}
 use Rattle.preparing.specs.Preparing.{emptyRegister}
-use Rattle.award_sheet.specs.AwardSheet.{RoundMade, isBidder, awardText, refusedText}
+use Rattle.round_lines.specs.RoundLines.{RoundMade}
+use Rattle.award_sheet.specs.AwardSheet.{isBidder, awardText, refusedText}
 use Rattle.award_rounds.specs.Rounds.{made, Answered}
 use Rattle.round_output.specs.Rounds.{Progress, roundOf, unlessStopped, ended, outputFrom}
 use Rattle.award_rounds.proofs.AwardLength.{RoundSizes, award-fits}

@@ -8,7 +8,8 @@ use Rattle.market.specs.declared.answer.Outcome.{Outcome}
 use Rattle.market.specs.declared.book.Book.{Book}
 use Rattle.round.specs.Round.{round, roundWords, roundBidAnswers, roundPathAnswers}
 use Rattle.preparing.specs.Preparing.{emptyRegister}
-use Rattle.award_sheet.specs.AwardSheet.{RoundMade, awardText, refusedText}
+use Rattle.round_lines.specs.RoundLines.{RoundMade}
+use Rattle.award_sheet.specs.AwardSheet.{awardText, refusedText}
 use Rattle.award_rounds.specs.Rounds.{made}
 
 -- the calls up to a round: what came of them, the register, and the rounds that were answered

@@ -1,8 +1,7 @@
 // Sheets of standard input, run one after the other, and what comes of each, on standard output. Before a sheet stands a line with
 // the word `sheet`, how many bytes the sheet has, and a name for it; behind it stands one byte 10.
+use fields::Field;
 use libc::STDIN_FILENO;
-use lines::fields;
-use lines::fields::Field;
 ghost use Prim.Native.Nat.{_≤_};
 ghost use lib.ListN.{length};
 

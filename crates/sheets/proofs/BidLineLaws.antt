@@ -16,8 +16,8 @@ use Rattle.text.specs.declared.Number.{Number}
 use Rattle.bids.proofs.EncodingLaws.{bid-back, bid-read, pairs-length}
 use Rattle.bids.specs.Bids.{Bid, bidAt, bidEnd}
 use Rattle.bids.specs.Encoding.{pairsEncoded, bidEncoded}
-use Rattle.lines.proofs.FieldLaws.{Front, front-both, fieldText, field-value, numbersText, line-text, text-join, text-some, both-some, both-stand, used-written, said-written, NumbersRead, numbers-read}
-use Rattle.lines.specs.Fields.{space, newline, wordTop, fieldAt, both, numbersUsed, numbersSaid, numbersLine}
+use Rattle.fields.proofs.FieldLaws.{Front, front-both, fieldText, field-value, numbersText, line-text, text-join, text-some, both-some, both-stand, used-written, said-written, NumbersRead, numbers-read}
+use Rattle.fields.specs.Fields.{space, newline, wordTop, fieldAt, both, numbersUsed, numbersSaid, numbersLine}
 use Rattle.lines.specs.Lines.{fromCount, bidUsed}
 use Rattle.sheets.specs.Reading.{afterStamp, bidWords}
 use Rattle.sheets.specs.Sheet.{bidLine, fits, rightBid}

@@ -7,18 +7,17 @@ use native.Mathlib.Omega.{arith}
 use lib.ListN.{length, drop, length-append}
 use lib.Seq.{drop-append-seam}
 use borrow.Author.Tests.{eqb-true, eq-eqb}
-use Rattle.lines.proofs.FieldLaws.{Front, front-both}
-use Rattle.lines.specs.Fields.{wordTop}
-use Rattle.lines.specs.Lines.{countUsed, countSaid, lineAt}
+use Rattle.fields.proofs.FieldLaws.{Front, front-both}
+use Rattle.fields.specs.Fields.{countLine, wordTop}
+use Rattle.lines.specs.Lines.{partWord, countUsed, countSaid, lineAt}
 use Rattle.sheets.specs.Form.{lineThen, linesAt, sectionAt, sectionStands}
 use Rattle.sheets.specs.Reading.{linesIn, sectionSays}
-use Rattle.sheets.specs.Sheet.{countLine}
 use Rattle.sheets.specs.declared.form.Read.{Read}
 use Rattle.sheets.proofs.LineLaws.{count-said, count-written, count-some, count-read}
 use Rattle.sheets.proofs.SectionLaws.{Sort, writeAll, rightAll, Written, Stands, then-some, then-counted, lines-written, lines-again, lines-stand}
 
 abbrev pub sectionText : {X : Type 0} → Sort X → List X → List ℕ
-sectionText s xs = countLine (s .part) (length xs) ++ writeAll s 0 xs
+sectionText s xs = countLine (partWord (s .part)) (length xs) ++ writeAll s 0 xs
 
 pub record SectionRead {X : Type 0} (s : Sort X) (text : List ℕ) : Type 0 where
   pub front : Front (sectionText s (sectionSays (s .part) (s .read) text)) text
@@ -29,7 +28,7 @@ pub record SectionRead {X : Type 0} (s : Sort X) (text : List ℕ) : Type 0 wher
 module _ {X : Type 0} (s : Sort X) (written : (state : ℕ) (x : X) (rest : List ℕ) → s .right state x ≡ true → Written s state x rest) (stands : (state : ℕ) (text : List ℕ) → 1 ≤ lineAt (s .part) state text .used → Stands s state text) where
   module _ (xs : List X) (rest : List ℕ) (right : rightAll s 0 xs ≡ true) (most : length xs ≤ wordTop) where
     abbrev count : List ℕ
-    count = countLine (s .part) (length xs)
+    count = countLine (partWord (s .part)) (length xs)
 
     abbrev body : List ℕ
     body = writeAll s 0 xs
@@ -78,15 +77,15 @@ module _ {X : Type 0} (s : Sort X) (written : (state : ℕ) (x : X) (rest : List
       let more = lines-stand s written stands n 0 rest (parts .1) in
       let xs = sectionSays part (s .read) text in
       let body = writeAll s 0 xs in
-      let head : countLine part n ≡ countLine part (length xs) = ap (countLine part) (sym (more .count)) in
+      let head : countLine (partWord part) n ≡ countLine (partWord part) (length xs) = ap (countLine (partWord part)) (sym (more .count)) in
       record {
         front =
             subst (λ (w : List ℕ). Front (w ++ body) text) head
-            (front-both (countLine part n) body text (c .front) (subst (λ (k : ℕ). Front body (drop k text)) (c .long) (more .front)));
+            (front-both (countLine (partWord part) n) body text (c .front) (subst (λ (k : ℕ). Front body (drop k text)) (c .long) (more .front)));
         long =
             ap (λ (r : Read). r .used) (then-some (countUsed part text) (linesAt part n 0 rest) (parts .0))
             ∙ ap₂ _+_ (c .long) (more .long)
-            ∙ sym (length-append (countLine part n) body)
+            ∙ sym (length-append (countLine (partWord part) n) body)
             ∙ ap (λ (w : List ℕ). length (w ++ body)) head;
         right = more .right;
         most = omega (arith, more .count, c .most);

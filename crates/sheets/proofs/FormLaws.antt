@@ -11,8 +11,8 @@ use borrow.Author.Tests.{le-leb, lt-leb, eqb-true, eqb-false, eq-eqb, ne-eqb}
 use Rattle.market.specs.Limits.{bidderLimit, sheetBytes}
 use Rattle.market.specs.declared.book.Kind.{Kind}
 use Rattle.market.specs.declared.book.Kind.the-variants.{Short, Long}
+use Rattle.fields.specs.Fields.{space, newline, wordTop, startsWith, spaced, numbersUsed}
 use Rattle.lines.proofs.LineLaws.{line-next}
-use Rattle.lines.specs.Fields.{space, newline, wordTop, startsWith, spaced, numbersUsed}
 use Rattle.lines.specs.Lines.{titleWord, kindByte, isKind, longIf, kindPlace, daysPlace, titleUsed, countUsed, countSaid, lineAt}
 use Rattle.lines.specs.declared.part.Part.{Part}
 use Rattle.lines.specs.declared.part.Part.the-variants.{Bidders, Paths, Bids}

@@ -14,15 +14,15 @@ use Rattle.market.specs.Limits.{bidderLimit}
 use Rattle.market.specs.declared.book.Direction.{Direction}
 use Rattle.market.specs.declared.book.Direction.the-variants.{Export, Import}
 use Rattle.text.specs.Decimal.{decimal}
-use Rattle.lines.proofs.FieldLaws.{Front, front-both, fieldText, field-written, field-read, field-some, numbersText, line-text, text-some, both-some, both-stand, within, used-written, said-written, numbers-read}
-use Rattle.lines.specs.Fields.{space, newline, wordTop, amountTop, startsWith, spaced, fieldAt, both, numbersUsed, numbersSaid}
+use Rattle.fields.proofs.FieldLaws.{Front, front-both, fieldText, field-written, field-read, field-some, numbersText, line-text, text-some, both-some, both-stand, within, used-written, said-written, numbers-read}
+use Rattle.fields.specs.Fields.{space, newline, countLine, wordTop, amountTop, startsWith, spaced, fieldAt, both, numbersUsed, numbersSaid}
+use Rattle.fields.specs.declared.Field.{Field}
 use Rattle.lines.specs.Lines.{behind, partWord, countPlace, countUsed, countSaid, bidderUsed, directionByte, isDirection, routeUsed, pathUsed}
-use Rattle.lines.specs.declared.fields.Field.{Field}
 use Rattle.lines.specs.declared.part.Part.{Part}
 use Rattle.sheets.specs.Reading.{bidderOf, bidderAt, importIf, directionOf, pathOf, routeIn, afterNumber, pathAt}
 use Rattle.sheets.specs.declared.rows.BidderLine.{BidderLine}
 use Rattle.sheets.specs.declared.rows.PathLine.{PathLine}
-use Rattle.sheets.specs.Sheet.{countLine, bidderLine, pathLine, fits, fitsAmount, rightPath}
+use Rattle.sheets.specs.Sheet.{bidderLine, pathLine, fits, fitsAmount, rightPath}
 
 pub or-left : (s : Bool) → (s || false) ≡ true → s ≡ true
 or-left true h = refl
@@ -58,39 +58,39 @@ module _ (part : Part) where
   word-some : 1 ≤ length word
   word-some = omega (arith, length-append (partWord part) (space ∷ []))
 
-  count-text : (n : ℕ) → countLine part n ≡ word ++ fieldText n newline
+  count-text : (n : ℕ) → countLine (partWord part) n ≡ word ++ fieldText n newline
   count-text n = sym (append-assoc (partWord part) (space ∷ []) (fieldText n newline))
 
-  pub count-some : (n : ℕ) → 1 ≤ length (countLine part n)
+  pub count-some : (n : ℕ) → 1 ≤ length (countLine (partWord part) n)
   count-some n = omega (arith, word-some, length-append word (fieldText n newline), ap length (count-text n))
 
   module _ (n : ℕ) (rest : List ℕ) (most : n ≤ wordTop) where
-    count-field : fieldAt wordTop newline (drop (countPlace part) (countLine part n ++ rest)) ≡ record { value = n; used = length (fieldText n newline) }
+    count-field : fieldAt wordTop newline (drop (countPlace part) (countLine (partWord part) n ++ rest)) ≡ record { value = n; used = length (fieldText n newline) }
     count-field =
         ap (λ (l : List ℕ). fieldAt wordTop newline (drop (length word) (l ++ rest))) (count-text n)
         ∙ ap (λ (l : List ℕ). fieldAt wordTop newline (drop (length word) l)) (append-assoc word (fieldText n newline) rest)
         ∙ ap (fieldAt wordTop newline) (drop-append-seam word (fieldText n newline ++ rest))
         ∙ field-written wordTop newline n rest most (omega arith) refl
 
-    count-starts : startsWith word (countLine part n ++ rest) ≡ true
+    count-starts : startsWith word (countLine (partWord part) n ++ rest) ≡ true
     count-starts =
         ap (λ (l : List ℕ). startsWith word (l ++ rest)) (count-text n)
         ∙ ap (startsWith word) (append-assoc word (fieldText n newline) rest)
         ∙ starts-written word (fieldText n newline ++ rest)
 
-    pub count-said : countSaid part (countLine part n ++ rest) ≡ n
+    pub count-said : countSaid part (countLine (partWord part) n ++ rest) ≡ n
     count-said = ap (λ (f : Field). f .value) count-field
 
-    pub count-written : countUsed part (countLine part n ++ rest) ≡ length (countLine part n)
+    pub count-written : countUsed part (countLine (partWord part) n ++ rest) ≡ length (countLine (partWord part) n)
     count-written =
-        ap (λ (f : Field). behind (startsWith word (countLine part n ++ rest)) (countPlace part) (f .used)) count-field
-        ∙ behind-written (startsWith word (countLine part n ++ rest)) (length word) (length (fieldText n newline)) count-starts word-some (field-some n newline)
+        ap (λ (f : Field). behind (startsWith word (countLine (partWord part) n ++ rest)) (countPlace part) (f .used)) count-field
+        ∙ behind-written (startsWith word (countLine (partWord part) n ++ rest)) (length word) (length (fieldText n newline)) count-starts word-some (field-some n newline)
         ∙ sym (length-append word (fieldText n newline))
         ∙ ap length (sym (count-text n))
 
   pub record CountRead (text : List ℕ) : Type 0 where
-    pub front : Front (countLine part (countSaid part text)) text
-    pub long : countUsed part text ≡ length (countLine part (countSaid part text))
+    pub front : Front (countLine (partWord part) (countSaid part text)) text
+    pub long : countUsed part text ≡ length (countLine (partWord part) (countSaid part text))
     pub most : countSaid part text ≤ wordTop
 
   pub count-read : (text : List ℕ) → 1 ≤ countUsed part text → CountRead text

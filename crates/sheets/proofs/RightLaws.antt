@@ -15,7 +15,7 @@ use Rattle.market.specs.declared.book.Kind.{Kind}
 use Rattle.market.specs.declared.book.Kind.the-variants.{Short, Long}
 use Rattle.bids.specs.Bids.{Bid}
 use Rattle.bids.specs.Encoding.{encoded}
-use Rattle.lines.specs.Fields.{wordTop}
+use Rattle.fields.specs.Fields.{wordTop}
 use Rattle.lines.specs.Lines.{titleUsed, countUsed, countSaid, lineAt}
 use Rattle.lines.specs.declared.part.Part.{Part}
 use Rattle.lines.specs.declared.part.Part.the-variants.{Bidders, Bids}

@@ -7,7 +7,7 @@ use native.Mathlib.Omega.{arith}
 use lib.ListN.{length, drop, length-append}
 use lib.Seq.{drop-append-seam}
 use Rattle.market.proofs.Tests.{left-true, right-true}
-use Rattle.lines.proofs.FieldLaws.{Front, front-both}
+use Rattle.fields.proofs.FieldLaws.{Front, front-both}
 use Rattle.lines.specs.Lines.{lineAt}
 use Rattle.lines.specs.declared.part.Part.{Part}
 use Rattle.lines.specs.declared.part.Step.{Step}

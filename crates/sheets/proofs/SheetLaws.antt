@@ -14,16 +14,16 @@ use Rattle.market.specs.Limits.{bidderLimit, sheetBytes}
 use Rattle.market.specs.declared.book.Kind.{Kind}
 use Rattle.market.specs.declared.book.Kind.the-variants.{Short, Long}
 use Rattle.bids.specs.Bids.{Bid}
-use Rattle.lines.proofs.FieldLaws.{within}
-use Rattle.lines.specs.Fields.{wordTop}
-use Rattle.lines.specs.Lines.{titleUsed, lineAt}
+use Rattle.fields.proofs.FieldLaws.{within}
+use Rattle.fields.specs.Fields.{countLine, wordTop}
+use Rattle.lines.specs.Lines.{titleUsed, partWord, lineAt}
 use Rattle.lines.specs.declared.part.Part.{Part}
 use Rattle.lines.specs.declared.part.Part.the-variants.{Bidders, Paths, Bids}
 use Rattle.sheets.specs.Form.{sectionAt, sectionStands, partsOf, ifStands, formFrom, kindIn, formOf}
 use Rattle.sheets.specs.Reading.{bidderAt, pathAt, bidIn, sectionSays, behindPart, roundsAt, atBidders, atPaths, atRounds, daysIn, sheetIn}
 use Rattle.sheets.specs.declared.rows.BidderLine.{BidderLine}
 use Rattle.sheets.specs.declared.rows.PathLine.{PathLine}
-use Rattle.sheets.specs.Sheet.{Sheet, roundsOf, titleLine, countLine, bidderLines, pathLines, bidSection, bidSections, sheetText, fits, fitsAmount, rightBidders, rightPath, rightBid, rightSection, rightSheet}
+use Rattle.sheets.specs.Sheet.{Sheet, roundsOf, titleLine, bidderLines, pathLines, bidSection, bidSections, sheetText, fits, fitsAmount, rightBidders, rightPath, rightBid, rightSection, rightSheet}
 use Rattle.sheets.specs.declared.form.Form.{Form}
 use Rattle.sheets.specs.declared.form.Form.the-variants.{Right, Faulty}
 use Rattle.sheets.specs.declared.form.Read.{Read}
@@ -71,19 +71,19 @@ form-more part read w rest xs p parts more line =
 
 -- the sections as the sheet has them
 abbrev bidderSection : List BidderLine → List ℕ
-bidderSection xs = countLine Bidders (length xs) ++ bidderLines xs
+bidderSection xs = countLine (partWord Bidders) (length xs) ++ bidderLines xs
 
 abbrev pathSection : List PathLine → List ℕ
-pathSection ps = countLine Paths (length ps) ++ pathLines 0 ps
+pathSection ps = countLine (partWord Paths) (length ps) ++ pathLines 0 ps
 
 bidders-same : (xs : List BidderLine) → sectionText bidderSort xs ≡ bidderSection xs
-bidders-same xs = ap (λ (l : List ℕ). countLine Bidders (length xs) ++ l) (bidders-text xs 0)
+bidders-same xs = ap (λ (l : List ℕ). countLine (partWord Bidders) (length xs) ++ l) (bidders-text xs 0)
 
 paths-same : (ps : List PathLine) → sectionText pathSort ps ≡ pathSection ps
-paths-same ps = ap (λ (l : List ℕ). countLine Paths (length ps) ++ l) (paths-text ps 0)
+paths-same ps = ap (λ (l : List ℕ). countLine (partWord Paths) (length ps) ++ l) (paths-text ps 0)
 
 pub bids-same : (bids : List Bid) → sectionText bidSort bids ≡ bidSection bids
-bids-same bids = ap (λ (l : List ℕ). countLine Bids (length bids) ++ l) (bids-text bids 0)
+bids-same bids = ap (λ (l : List ℕ). countLine (partWord Bids) (length bids) ++ l) (bids-text bids 0)
 
 -- ---- Rounds
 

@@ -10,8 +10,8 @@ use borrow.Author.Tests.{leb-true, le-leb}
 use Rattle.market.proofs.Tests.{left-true, right-true}
 use Rattle.market.specs.Books.{every}
 use Rattle.bids.specs.Bids.{Bid}
-use Rattle.lines.proofs.FieldLaws.{line-text, text-some}
-use Rattle.lines.specs.Fields.{newline, wordTop}
+use Rattle.fields.proofs.FieldLaws.{line-text, text-some}
+use Rattle.fields.specs.Fields.{newline, wordTop}
 use Rattle.lines.specs.Lines.{lineAt}
 use Rattle.lines.specs.declared.part.Part.the-variants.{Bidders, Paths, Bids}
 use Rattle.sheets.specs.Reading.{bidderAt, pathAt, bidIn}

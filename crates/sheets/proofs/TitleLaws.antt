@@ -13,8 +13,8 @@ use Rattle.market.specs.Books.{every}
 use Rattle.market.specs.declared.book.Kind.{Kind}
 use Rattle.market.specs.declared.book.Kind.the-variants.{Short, Long}
 use Rattle.text.specs.Decimal.{decimal}
-use Rattle.lines.proofs.FieldLaws.{Front, front-both, numbersText, line-text, text-some, within, used-written, said-written, numbers-read}
-use Rattle.lines.specs.Fields.{space, newline, wordTop, startsWith, spaced, numbersUsed, numbersSaid, line}
+use Rattle.fields.proofs.FieldLaws.{Front, front-both, numbersText, line-text, text-some, within, used-written, said-written, numbers-read}
+use Rattle.fields.specs.Fields.{space, newline, wordTop, startsWith, spaced, numbersUsed, numbersSaid, line}
 use Rattle.lines.specs.Lines.{behind, titleWord, kindByte, isKind, longIf, kindOf, kindPlace, daysPlace, titleUsed}
 use Rattle.sheets.specs.Form.{kindIn}
 use Rattle.sheets.specs.Reading.{daysIn}

@@ -16,11 +16,11 @@ use Rattle.text.specs.Decimal.{decimal, isDigit, digitsIn, rightDigits, numberA
 use Rattle.text.specs.declared.Number.{Number}
 use Rattle.bids.specs.Bids.{Bid}
 use Rattle.bids.specs.Encoding.{bidEncoded, encoded}
-use Rattle.lines.proofs.FieldLaws.{fieldText, field-some, numbersText, line-text}
-use Rattle.lines.specs.Fields.{space, newline, wordTop}
-use Rattle.lines.specs.Lines.{countUsed}
+use Rattle.fields.proofs.FieldLaws.{fieldText, field-some, numbersText, line-text}
+use Rattle.fields.specs.Fields.{space, newline, countLine, wordTop}
+use Rattle.lines.specs.Lines.{partWord, countUsed}
 use Rattle.lines.specs.declared.part.Part.the-variants.{Bids}
-use Rattle.sheets.specs.Sheet.{countLine, bidLine, bidLines, bidSection, fits, rightBid, rightSection}
+use Rattle.sheets.specs.Sheet.{bidLine, bidLines, bidSection, fits, rightBid, rightSection}
 use Rattle.sheets.specs.Words.{wordOf, numbersIn, wordsOf}
 use Rattle.sheets.proofs.LineLaws.{count-written}
 
@@ -90,7 +90,7 @@ bids-bytes (b ∷ bs) =
 -- the words that a round takes
 pub section-words : (bids : List Bid) → rightSection bids ≡ true → wordsOf (bidSection bids) ≡ encoded bids
 section-words bids right =
-    let count = countLine Bids (length bids) in
+    let count = countLine (partWord Bids) (length bids) in
     let lines = bidLines bids in
     let few = leb-true (length bids) wordTop (left-true (fits (length bids)) (every rightBid bids) right) in
     let spare = length (bidSection bids) - length (encoded bids) in

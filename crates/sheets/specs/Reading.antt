@@ -7,7 +7,7 @@ use lib.ListN.{getD, drop, take}
 use Rattle.market.specs.declared.book.Direction.{Direction}
 use Rattle.market.specs.declared.book.Direction.the-variants.{Export, Import}
 use Rattle.bids.specs.Bids.{Bid, bidAt}
-use Rattle.lines.specs.Fields.{space, newline, wordTop, amountTop, fieldAt, numbersUsed, numbersSaid}
+use Rattle.fields.specs.Fields.{space, newline, wordTop, amountTop, fieldAt, numbersUsed, numbersSaid}
 use Rattle.lines.specs.Lines.{daysPlace, titleUsed, countUsed, countSaid, directionByte, fromCount, lineAt}
 use Rattle.lines.specs.declared.part.Part.{Part}
 use Rattle.lines.specs.declared.part.Part.the-variants.{Bidders, Paths, Bids}

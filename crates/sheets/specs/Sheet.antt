@@ -11,9 +11,8 @@ use Rattle.market.specs.declared.book.Kind.the-variants.{Short, Long}
 use Rattle.text.specs.Decimal.{decimal}
 use Rattle.bids.specs.Bids.{Bid}
 use Rattle.bids.specs.Encoding.{bidEncoded}
-use Rattle.lines.specs.Fields.{line, numbersLine, wordTop, amountTop}
+use Rattle.fields.specs.Fields.{line, numbersLine, countLine, wordTop, amountTop}
 use Rattle.lines.specs.Lines.{titleWord, kindByte, partWord, directionByte}
-use Rattle.lines.specs.declared.part.Part.{Part}
 use Rattle.lines.specs.declared.part.Part.the-variants.{Bidders, Paths, Bids}
 use Rattle.sheets.specs.declared.rows.BidderLine.{BidderLine}
 use Rattle.sheets.specs.declared.rows.PathLine.{PathLine}
@@ -57,10 +56,6 @@ pathLine number p =
 abbrev pub bidLine : Bid → List ℕ
 bidLine b = numbersLine (bidEncoded b)
 
--- "each after its count"
-abbrev pub countLine : Part → ℕ → List ℕ
-countLine part count = line (partWord part ∷ decimal count ∷ [])
-
 abbrev pub bidderLines : List BidderLine → List ℕ
 bidderLines [] = []
 bidderLines (x ∷ xs) = bidderLine x ++ bidderLines xs
@@ -73,9 +68,9 @@ abbrev pub bidLines : List Bid → List ℕ
 bidLines [] = []
 bidLines (b ∷ bs) = bidLine b ++ bidLines bs
 
--- a section of bids
+-- a section of bids, "each after its count"
 abbrev pub bidSection : List Bid → List ℕ
-bidSection bids = countLine Bids (length bids) ++ bidLines bids
+bidSection bids = countLine (partWord Bids) (length bids) ++ bidLines bids
 
 abbrev pub bidSections : List (List Bid) → List ℕ
 bidSections [] = []
@@ -85,8 +80,8 @@ bidSections (bids ∷ more) = bidSection bids ++ bidSections more
 unfoldable pub sheetText : Sheet → List ℕ
 sheetText s =
     titleLine s
-    ++ (countLine Bidders (length (s .bidders)) ++ bidderLines (s .bidders))
-    ++ (countLine Paths (length (s .paths)) ++ pathLines 0 (s .paths))
+    ++ (countLine (partWord Bidders) (length (s .bidders)) ++ bidderLines (s .bidders))
+    ++ (countLine (partWord Paths) (length (s .paths)) ++ pathLines 0 (s .paths))
     ++ bidSections (s .rounds)
 
 -- ---- Which sheets can be written

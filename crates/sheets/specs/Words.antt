@@ -5,7 +5,7 @@ use Prim.Native.Nat.{ℕ, zero, suc, _+_}
 use lib.Dec.{leb}
 use lib.ListN.{length, drop}
 use Rattle.text.specs.Decimal.{numberAt}
-use Rattle.lines.specs.Fields.{wordTop}
+use Rattle.fields.specs.Fields.{wordTop}
 use Rattle.lines.specs.Lines.{countUsed}
 use Rattle.lines.specs.declared.part.Part.the-variants.{Bids}
 

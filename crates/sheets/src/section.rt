@@ -37,7 +37,7 @@ pub fn second_bids(bytes: &[u8], found: Found) -> &[u8]
 fn word_of(value: u64) -> u32
     ensures { λ r. ⌜ r ≡ wordOf value ⌝ }
 {
-    if value <= lines::fields::WORD_TOP {
+    if value <= fields::WORD_TOP {
         return value as u32;
     }
     0

@@ -5,7 +5,7 @@ use lib.ListN.{length}
 use denote.Ref.{now, at-last}
 use Rattle.text.specs.Put.{putAt}
 use Rattle.bids.specs.Bids.{bidsOf}
-use Rattle.award_sheet.specs.AwardSheet.{roundText}
+use Rattle.round_lines.specs.RoundLines.{roundText}
 use Rattle.writer.specs.declared.Writer.{Writer}
 
 -- the same buffer with the text behind what was filled, which is filled now too

@@ -53,7 +53,7 @@ pub fn round<'s, 'a>(
     ensures { λ _. ⌜ now (w .exit) ≡ written (now (w .entry)) (answeredText paths (now (bids .entry)) (now (answers .entry)) (now (results .entry))) ⌝ }
 {
     let at = w.filled;
-    let end = award_sheet::round_lines::put_round(&mut *w.out, at, bids, answers, results, paths);
+    let end = round_lines::put_round(&mut *w.out, at, bids, answers, results, paths);
     w.filled = end;
 }
 

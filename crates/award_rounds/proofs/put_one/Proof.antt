@@ -1,8 +1,9 @@
 use borrow.Author.Needs.{needs}
 use mathlib.Core.Path.{refl}
 use mathlib.Core.List.{[], _∷_, _++_}
-use Rattle.award_sheet.proofs.PutLaws.{written-room, written-fits, written-on}
-use Rattle.award_sheet.specs.AwardSheet.{titleText, roundText, biddersText, awardText}
+use Rattle.writing.proofs.PutLaws.{written-room, written-fits, written-on}
+use Rattle.round_lines.specs.RoundLines.{roundText}
+use Rattle.award_sheet.specs.AwardSheet.{titleText, biddersText, awardText}
 use Rattle.award_rounds.specs.Rounds.{made}
 use Rattle.award_rounds.proofs.Pieces.{one-pieces, front-none, front-all}
 use Rattle.award_rounds.proofs.put_one.Statement.{statement}

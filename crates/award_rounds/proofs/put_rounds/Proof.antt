@@ -1,7 +1,8 @@
 use borrow.Author.Needs.{needs}
 use mathlib.Core.List.{[], _∷_}
-use Rattle.award_sheet.proofs.PutLaws.{written-none, written-room, written-fits, written-on, written-all}
-use Rattle.award_sheet.specs.AwardSheet.{roundText, roundsText}
+use Rattle.writing.proofs.PutLaws.{written-none, written-room, written-fits, written-on, written-all}
+use Rattle.round_lines.specs.RoundLines.{roundText}
+use Rattle.award_sheet.specs.AwardSheet.{roundsText}
 use Rattle.award_rounds.specs.Rounds.{made}
 use Rattle.award_rounds.proofs.Pieces.{two-rounds}
 use Rattle.award_rounds.proofs.put_rounds.Statement.{statement}

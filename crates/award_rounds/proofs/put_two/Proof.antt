@@ -1,7 +1,7 @@
 use borrow.Author.Needs.{needs}
 use mathlib.Core.Path.{refl}
 use mathlib.Core.List.{[], _∷_, _++_}
-use Rattle.award_sheet.proofs.PutLaws.{written-room, written-fits, written-on}
+use Rattle.writing.proofs.PutLaws.{written-room, written-fits, written-on}
 use Rattle.award_sheet.specs.AwardSheet.{titleText, roundsText, biddersText, awardText}
 use Rattle.award_rounds.specs.Rounds.{made}
 use Rattle.award_rounds.proofs.Pieces.{award-pieces, front-none, front-all}

@@ -2,7 +2,7 @@ use native.Mathlib.Omega.{arith}
 use Prim.Native.Nat.{_+_}
 use mathlib.Core.Path.{_∙_}
 use lib.ListN.{drop}
-use Rattle.lines.proofs.ReadLaws.{number-small, both-most}
+use Rattle.fields.proofs.ReadLaws.{number-small, both-most}
 use Rattle.lines.proofs.LineLaws.{bid-here}
 use borrow.Author.Needs.{needs}
 use Rattle.lines.proofs.bid_used.Statement.{statement}

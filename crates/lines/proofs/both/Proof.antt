@@ -1,8 +1,8 @@
 use native.Mathlib.Omega.{arith}
 use mathlib.Core.Path.{sym}
 use borrow.Author.Needs.{needs}
-use Rattle.lines.proofs.FieldLaws.{both-some}
-use Rattle.lines.proofs.ReadLaws.{both-none}
+use Rattle.fields.proofs.FieldLaws.{both-some}
+use Rattle.fields.proofs.ReadLaws.{both-none}
 use Rattle.lines.proofs.both.Statement.{statement}
 use Rattle.lines.proofs.both.Tie as tie
 

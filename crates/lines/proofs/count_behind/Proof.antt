@@ -2,7 +2,7 @@ use native.Mathlib.Omega.{arith}
 use mathlib.Core.Path.{sym, _∙_}
 use lib.ListN.{length}
 use borrow.Author.Tests.{not-true, not-false}
-use Rattle.lines.proofs.ReadLaws.{both-most}
+use Rattle.fields.proofs.ReadLaws.{both-most}
 use Rattle.lines.proofs.LineLaws.{no-word, word-short, count-short, count-value, count-here}
 use borrow.Author.Needs.{needs}
 use Rattle.lines.proofs.count_behind.Statement.{statement}

@@ -2,12 +2,12 @@ use native.Mathlib.Omega.{arith}
 use Prim.Native.Nat.{ℕ, _+_}
 use mathlib.Core.Path.{sym, _∙_, ap, ap₂}
 use lib.ListN.{drop}
-use Rattle.lines.specs.Fields.{space, amountTop}
+use Rattle.fields.specs.Fields.{space, amountTop}
+use Rattle.fields.specs.declared.Field.{Field}
+use Rattle.fields.proofs.ReadLaws.{field-within}
 use Rattle.lines.specs.Lines.{lineAt}
-use Rattle.lines.specs.declared.fields.Field.{Field}
 use Rattle.lines.specs.declared.part.Part.{Part}
 use Rattle.lines.specs.declared.part.Step.{Step}
-use Rattle.lines.proofs.ReadLaws.{field-within}
 use borrow.Author.Needs.{needs}
 use Rattle.lines.proofs.line_at.Statement.{statement}
 use Rattle.lines.proofs.line_at.Tie as tie

@@ -1,6 +1,6 @@
 use native.Mathlib.Omega.{arith}
 use mathlib.Core.Path.{_∙_}
-use Rattle.lines.proofs.ReadLaws.{both-most}
+use Rattle.fields.proofs.ReadLaws.{both-most}
 use Rattle.lines.proofs.LineLaws.{path-other, path-here}
 use borrow.Author.Needs.{needs}
 use Rattle.lines.proofs.path_used.Statement.{statement}

@@ -1,7 +1,7 @@
 use native.Mathlib.Omega.{arith}
 use mathlib.Core.Path.{sym, _∙_}
 use borrow.Author.Tests.{not-true, not-false}
-use Rattle.lines.proofs.ReadLaws.{both-most}
+use Rattle.fields.proofs.ReadLaws.{both-most}
 use Rattle.lines.proofs.LineLaws.{letter-fits, route-missing, route-here}
 use borrow.Author.Needs.{needs}
 use Rattle.lines.proofs.route_used.Statement.{statement}

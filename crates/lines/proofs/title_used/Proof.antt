@@ -1,9 +1,9 @@
 use native.Mathlib.Omega.{arith}
 use mathlib.Core.Path.{sym, _∙_}
 use borrow.Author.Tests.{not-true, not-false}
-use Rattle.lines.specs.Fields.{spaced}
+use Rattle.fields.specs.Fields.{spaced}
+use Rattle.fields.proofs.ReadLaws.{starts-fit, both-most}
 use Rattle.lines.specs.Lines.{titleWord}
-use Rattle.lines.proofs.ReadLaws.{starts-fit, both-most}
 use Rattle.lines.proofs.LineLaws.{letter-fits, title-missing, kind-missing, title-here}
 use borrow.Author.Needs.{needs}
 use Rattle.lines.proofs.title_used.Statement.{statement}

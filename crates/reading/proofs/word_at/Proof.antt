@@ -1,8 +1,8 @@
 use native.Mathlib.Omega.{arith}
 use mathlib.Core.Path.{ap}
-use Rattle.lines.proofs.ReadLaws.{field-within}
-use Rattle.lines.specs.Fields.{wordTop}
-use Rattle.lines.specs.declared.fields.Field.{Field}
+use Rattle.fields.proofs.ReadLaws.{field-within}
+use Rattle.fields.specs.Fields.{wordTop}
+use Rattle.fields.specs.declared.Field.{Field}
 use lib.ListN.{drop}
 use borrow.Author.Needs.{needs}
 use Rattle.reading.proofs.word_at.Statement.{statement}

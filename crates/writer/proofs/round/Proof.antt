@@ -40,10 +40,10 @@ use Rattle.writer.proofs.Writer as T
 use Rattle.writer.proofs.Buffer.{spot}
 use Rattle.writer.proofs.Lent as lent
 use Rattle.writer.proofs.Lent.{Loan}
-use Rattle.award_sheet.proofs.round_lines.put_round as put
-use Rattle.award_sheet.proofs.round_lines.put_round.Symbol as put-def
-use Rattle.award_sheet.proofs.round_lines.put_round.Symbol.{name as #put}
-use Rattle.award_sheet.proofs.round_lines.put_round.Met as put-thm
+use Rattle.round_lines.proofs.put_round as put
+use Rattle.round_lines.proofs.put_round.Symbol as put-def
+use Rattle.round_lines.proofs.put_round.Symbol.{name as #put}
+use Rattle.round_lines.proofs.put_round.Met as put-thm
 use Rattle.writer.proofs.round.Key.{name as #writer·round}
 use Rattle.writer.proofs.round as round
 use Rattle.writer.proofs.round.Statement as stated
@@ -153,4 +153,4 @@ round-spec 𝓤 H 𝓜 𝓖 𝓡 =
     entered 𝓤 H (tripleOf 𝓤 H (𝓖 .A) round.signature (round.spec 𝓤 H (𝓖 .A) (𝓜 .mem) (𝓡 .run)))
     (tables 𝓤 H 𝓜 𝓡 code.env .C) (tables 𝓤 H 𝓜 𝓡 code.env .Λ) #writer·round code.function (code.unfolded 𝓤 H 𝓜 𝓡)
     (round-meets 𝓤 H (𝓖 .A) (givenOf 𝓤 H 𝓜 𝓖) (𝓜 .mem) (𝓡 .run) (tablesOf 𝓤 H 𝓜 (tables 𝓤 H 𝓜 𝓡 code.env))
-    (cited 𝓤 H (Put 𝓤 H (𝓖 .A) (𝓜 .mem) (𝓡 .run)) 𝓜 𝓡 code.env #put put-def.routine code.calls-award-sheet·round-lines·put-round (put-thm.met 𝓤 H 𝓜 𝓖 𝓡)))
+    (cited 𝓤 H (Put 𝓤 H (𝓖 .A) (𝓜 .mem) (𝓡 .run)) 𝓜 𝓡 code.env #put put-def.routine code.calls-round-lines·put-round (put-thm.met 𝓤 H 𝓜 𝓖 𝓡)))

@@ -1,11 +1,11 @@
 use borrow.Author.Needs.{needs}
 use mathlib.Core.Path.{refl}
 use mathlib.Core.List.{[], _∷_}
-use Rattle.lines.specs.Fields.{newline}
-use Rattle.lines.proofs.FieldLaws.{numbersText}
+use Rattle.fields.specs.Fields.{newline}
+use Rattle.fields.proofs.FieldLaws.{numbersText}
+use Rattle.writing.proofs.PutLaws.{written-none, written-fits, written-on, written-done}
+use Rattle.writing.proofs.PieceLaws.{line-alone}
 use Rattle.award_sheet.specs.AwardSheet.{bidderLine}
-use Rattle.award_sheet.proofs.PutLaws.{written-none, written-fits, written-on, written-done}
-use Rattle.award_sheet.proofs.LineLaws.{line-alone}
 use Rattle.award_sheet.proofs.bidder_lines.put_bidder_line.Statement.{statement}
 use Rattle.award_sheet.proofs.bidder_lines.put_bidder_line.Tie as tie
 

@@ -7,9 +7,9 @@ use Rattle.market.specs.declared.book.Bidder.{Bidder}
 use Rattle.market.specs.Limits.{bidderLimit}
 use Rattle.market.proofs.Every.{every-within}
 use borrow.Author.Tests.{ltb-true}
+use Rattle.writing.proofs.PutLaws.{WrittenTo, written-none, written-same, written-fits, written-on, written-done}
 use Rattle.award_sheet.specs.AwardSheet.{isBidder, bidderLine, bidderLines}
-use Rattle.award_sheet.proofs.PutLaws.{WrittenTo, written-none, written-same, written-fits, written-on, written-done}
-use Rattle.award_sheet.proofs.LineLaws.{bidders-next, bidders-none}
+use Rattle.award_sheet.proofs.BidderLaws.{bidders-next, bidders-none}
 use Rattle.award_sheet.proofs.bidder_lines.put_bidder_lines.Statement.{statement}
 use Rattle.award_sheet.proofs.bidder_lines.put_bidder_lines.Tie as tie
 

@@ -2,10 +2,11 @@ use borrow.Author.Needs.{needs}
 use mathlib.Core.Path.{refl}
 use mathlib.Core.List.{_++_}
 use lib.ListN.{length}
+use Rattle.fields.specs.Fields.{countLine}
 use Rattle.lines.specs.Lines.{partWord}
 use Rattle.lines.specs.declared.part.Part.the-variants.{Bidders}
-use Rattle.award_sheet.specs.AwardSheet.{countLine, bidderLines}
-use Rattle.award_sheet.proofs.PutLaws.{written-none, written-room, written-fits, written-on, written-all}
+use Rattle.writing.proofs.PutLaws.{written-none, written-room, written-fits, written-on, written-all}
+use Rattle.award_sheet.specs.AwardSheet.{bidderLines}
 use Rattle.award_sheet.proofs.bidder_lines.put_bidders.Statement.{statement}
 use Rattle.award_sheet.proofs.bidder_lines.put_bidders.Tie as tie
 

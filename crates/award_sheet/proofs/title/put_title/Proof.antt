@@ -1,9 +1,10 @@
 use borrow.Author.Needs.{needs}
 use mathlib.Core.Path.{refl}
 use mathlib.Core.List.{_++_}
-use Rattle.award_sheet.specs.AwardSheet.{countLine, titleLine}
+use Rattle.fields.specs.Fields.{countLine}
+use Rattle.writing.proofs.PutLaws.{written-none, written-room, written-fits, written-on, written-all}
+use Rattle.award_sheet.specs.AwardSheet.{titleLine}
 use Rattle.award_sheet.specs.Phrases.{roundsWord}
-use Rattle.award_sheet.proofs.PutLaws.{written-none, written-room, written-fits, written-on, written-all}
 use Rattle.award_sheet.proofs.title.put_title.Statement.{statement}
 use Rattle.award_sheet.proofs.title.put_title.Tie as tie
 

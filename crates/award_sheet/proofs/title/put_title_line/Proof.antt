@@ -3,12 +3,12 @@ use mathlib.Core.Path.{refl}
 use mathlib.Core.List.{[], _∷_, _++_}
 use Rattle.market.specs.Limits.{release, ruleEdition}
 use Rattle.text.specs.Decimal.{decimal}
-use Rattle.lines.specs.Fields.{space}
-use Rattle.lines.proofs.FieldLaws.{fieldText}
-use Rattle.award_sheet.specs.AwardSheet.{countLine, titleLine}
+use Rattle.fields.specs.Fields.{space, countLine}
+use Rattle.fields.proofs.FieldLaws.{fieldText}
+use Rattle.writing.proofs.PutLaws.{written-none, written-room, written-fits, written-on, written-all}
+use Rattle.writing.proofs.PieceLaws.{field-piece}
+use Rattle.award_sheet.specs.AwardSheet.{titleLine}
 use Rattle.award_sheet.specs.Phrases.{titleWord, releaseWord, rulesWord}
-use Rattle.award_sheet.proofs.PutLaws.{written-none, written-room, written-fits, written-on, written-all}
-use Rattle.award_sheet.proofs.LineLaws.{field-piece}
 use Rattle.award_sheet.proofs.title.put_title_line.Statement.{statement}
 use Rattle.award_sheet.proofs.title.put_title_line.Tie as tie
 

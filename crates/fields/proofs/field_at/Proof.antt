@@ -1,0 +1,65 @@
+use native.Mathlib.Omega.{arith}
+use Rattle.fields.proofs.ReadLaws.{no-digits, over-limit, no-end, other-end, field-here}
+use borrow.Author.Needs.{needs}
+use Rattle.fields.proofs.field_at.Statement.{statement}
+use Rattle.fields.proofs.field_at.Tie as tie
+
+number-at-requires : tie.Need-number-at-requires
+number-at-requires c κs = search needs
+
+returns : tie.Need-returns
+returns c =
+    let a = c .before .before .before .args in
+    let n = c .before .number-at in
+    (no-digits (a .bytes .now) (a .at) (a .limit) (a .stop) (n .result) (n .ensures) (c .if1 .taken), search needs)
+
+returns-2 : tie.Need-returns-2
+returns-2 c =
+    let a = c .before .before .before .before .before .args in
+    let n = c .before .before .before .number-at in
+    (over-limit (a .bytes .now) (a .at) (a .limit) (a .stop) (n .result) (n .ensures) (omega arith), search needs)
+
+sub-if3 : tie.Need-sub-if3
+sub-if3 c = search needs
+
+returns-3 : tie.Need-returns-3
+returns-3 c =
+    let a = c .before .before .before .before .before .before .args in
+    let n = c .before .before .before .before .number-at in
+    (no-end (a .bytes .now) (a .at) (a .limit) (a .stop) (n .result) (n .ensures) (omega arith) (omega arith), search needs)
+
+add-if4 : tie.Need-add-if4
+add-if4 c = search needs
+
+shared-slice-read-if4 : tie.Need-shared-slice-read-if4
+shared-slice-read-if4 c = search needs
+
+returns-4 : tie.Need-returns-4
+returns-4 c =
+    let a = c .before .before .before .before .before .before .before .before .args in
+    let n = c .before .before .before .before .before .before .number-at in
+    (other-end (a .bytes .now) (a .at) (a .limit) (a .stop) (n .result) (n .ensures) (c .if4 .taken), search needs)
+
+add-t10 : tie.Need-add-t10
+add-t10 c = search needs
+
+returns-5 : tie.Need-returns-5
+returns-5 c =
+    let a = c .before .before .before .before .before .before .before .before .args in
+    let n = c .before .before .before .before .before .before .number-at in
+    (field-here (a .bytes .now) (a .at) (a .limit) (a .stop) (n .result) (n .ensures) (c .before .before .before .before .before .if1 .left) (omega arith) (c .if4 .left), search needs)
+
+pub field-at-spec : {M : Type 1} → statement M
+field-at-spec =
+    tie.close
+    (tie.spec
+    number-at-requires
+    returns
+    returns-2
+    sub-if3
+    returns-3
+    add-if4
+    shared-slice-read-if4
+    returns-4
+    add-t10
+    returns-5)

@@ -1,0 +1,77 @@
+use Prim.Native.Nat.{_-_}
+use lib.Dec.{eqb}
+use borrow.Author.Needs.{needs}
+use Rattle.fields.proofs.ReadLaws.{stop-some, TakenTo, taken-none, taken-missing, taken-one, taken-all}
+use Rattle.fields.proofs.numbers_used.Statement.{statement}
+use Rattle.fields.proofs.numbers_used.Tie as tie
+
+abbrev Inv-loop : tie.InvT-loop
+Inv-loop bytes at limit last count used₀ left₀ used left = TakenTo bytes at limit last count used left
+
+abbrev μ-loop : tie.MeasureT-loop
+μ-loop bytes at limit last count used₀ left₀ used left = left
+
+loop-holds : tie.Need-loop-holds Inv-loop μ-loop
+loop-holds c =
+    let a = c .before .args in
+    taken-none (a .bytes .now) (a .at) (a .limit) (a .last) (a .count) (c .before .pre .0)
+
+sub-left : tie.Need-sub-left Inv-loop μ-loop
+sub-left c = search needs
+
+add-field-at : tie.Need-add-field-at Inv-loop μ-loop
+add-field-at c = search needs
+
+stop-before-requires : tie.Need-stop-before-requires Inv-loop μ-loop
+stop-before-requires c κs = search needs
+
+field-at-requires : tie.Need-field-at-requires Inv-loop μ-loop
+field-at-requires c κs =
+    let a = c .before .before .before .before .args in
+    let to = c .before .before .loop in
+    (search needs, stop-some (eqb (to .left - 1) 0) (a .last) (c .stop-before .result) (c .before .before .before .before .pre .1) (c .stop-before .ensures))
+
+returns : tie.Need-returns Inv-loop μ-loop
+returns c =
+    let a = c .before .before .before .before .before .before .before .args in
+    let to = c .before .before .before .before .before .loop in
+    let stop = c .before .before .before .stop-before in
+    let next = c .before .before .field-at in
+    (taken-missing (a .bytes .now) (a .at) (a .limit) (a .last) (a .count) (to .used) (to .left) (to .inv) (c .before .before .before .before .loop-test .taken) (next .result) (stop .result) (stop .ensures) (next .ensures .0) (c .if1 .taken), search needs)
+
+add-used : tie.Need-add-used Inv-loop μ-loop
+add-used c = search needs
+
+loop-less : tie.Need-loop-less Inv-loop μ-loop
+loop-less c = search needs
+
+loop-again : tie.Need-loop-again Inv-loop μ-loop
+loop-again c =
+    let a = c .before .before .before .before .before .before .before .before .args in
+    let to = c .before .before .before .before .before .before .loop in
+    let stop = c .before .before .before .before .stop-before in
+    let next = c .before .before .before .field-at in
+    taken-one (a .bytes .now) (a .at) (a .limit) (a .last) (a .count) (to .used) (to .left) (to .inv) (c .before .before .before .before .before .loop-test .taken) (next .result) (stop .result) (stop .ensures) (next .ensures .0) (c .before .if1 .left) (next .ensures .1)
+
+returns-2 : tie.Need-returns-2 Inv-loop μ-loop
+returns-2 c =
+    let a = c .before .before .before .args in
+    let to = c .before .loop in
+    (taken-all (a .bytes .now) (a .at) (a .limit) (a .last) (a .count) (to .used) (to .left) (to .inv) (c .loop-test .left), to .inv .fits)
+
+pub numbers-used-spec : {M : Type 1} → statement M
+numbers-used-spec =
+    tie.close
+    (tie.spec
+    Inv-loop
+    μ-loop
+    loop-holds
+    sub-left
+    add-field-at
+    stop-before-requires
+    field-at-requires
+    returns
+    add-used
+    loop-less
+    loop-again
+    returns-2)

@@ -1,0 +1,78 @@
+use native.Mathlib.Omega.{arith}
+use borrow.Author.Needs.{needs}
+use Prim.Native.Nat.{_-_}
+use lib.ListN.{length}
+use Rattle.fields.proofs.ReadLaws.{MatchedTo, matched-none, word-past, other-byte, matched-one, matched-all}
+use Rattle.fields.proofs.starts_with.Statement.{statement}
+use Rattle.fields.proofs.starts_with.Tie as tie
+
+abbrev Inv-loop : tie.InvT-loop
+Inv-loop bytes at word i₀ i = MatchedTo bytes at word i
+
+abbrev μ-loop : tie.MeasureT-loop
+μ-loop bytes at word i₀ i = length word - i
+
+loop-holds : tie.Need-loop-holds Inv-loop μ-loop
+loop-holds c =
+    let a = c .args in
+    matched-none (a .bytes .now) (a .at) (a .word .now) (c .pre)
+
+sub-if1 : tie.Need-sub-if1 Inv-loop μ-loop
+sub-if1 c = search needs
+
+returns : tie.Need-returns Inv-loop μ-loop
+returns c =
+    let a = c .before .before .before .args in
+    let to = c .before .before .loop in
+    word-past (a .bytes .now) (a .at) (a .word .now) (to .i) (to .inv) (omega arith) (omega arith)
+
+add-if2 : tie.Need-add-if2 Inv-loop μ-loop
+add-if2 c = search needs
+
+shared-slice-read-if2 : tie.Need-shared-slice-read-if2 Inv-loop μ-loop
+shared-slice-read-if2 c = search needs
+
+shared-slice-read-if2-2 : tie.Need-shared-slice-read-if2-2 Inv-loop μ-loop
+shared-slice-read-if2-2 c = search needs
+
+returns-2 : tie.Need-returns-2 Inv-loop μ-loop
+returns-2 c =
+    let a = c .before .before .before .before .before .before .args in
+    let to = c .before .before .before .before .before .loop in
+    other-byte (a .bytes .now) (a .at) (a .word .now) (to .i) (to .inv) (omega arith) (omega arith) (c .if2 .taken)
+
+add-i : tie.Need-add-i Inv-loop μ-loop
+add-i c = search needs
+
+loop-less : tie.Need-loop-less Inv-loop μ-loop
+loop-less c = search needs
+
+loop-again : tie.Need-loop-again Inv-loop μ-loop
+loop-again c =
+    let a = c .before .before .before .before .before .before .args in
+    let to = c .before .before .before .before .before .loop in
+    matched-one (a .bytes .now) (a .at) (a .word .now) (to .i) (to .inv) (omega arith) (omega arith) (c .if2 .left)
+
+returns-3 : tie.Need-returns-3 Inv-loop μ-loop
+returns-3 c =
+    let a = c .before .before .args in
+    let to = c .before .loop in
+    matched-all (a .bytes .now) (a .at) (a .word .now) (to .i) (to .inv) (c .loop-test .left)
+
+pub starts-with-spec : {M : Type 1} → statement M
+starts-with-spec =
+    tie.close
+    (tie.spec
+    Inv-loop
+    μ-loop
+    loop-holds
+    sub-if1
+    returns
+    add-if2
+    shared-slice-read-if2
+    shared-slice-read-if2-2
+    returns-2
+    add-i
+    loop-less
+    loop-again
+    returns-3)

@@ -1,0 +1,3 @@
+-- Laws about writing a round.
+pub mod LineLaws
+pub mod WalkLaws

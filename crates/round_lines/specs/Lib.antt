@@ -1,0 +1,3 @@
+-- A round of the award sheet.
+pub mod RoundLines
+pub mod Phrases

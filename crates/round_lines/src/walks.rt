@@ -1,0 +1,56 @@
+// What a round's bids count up to.
+use market::engine::Engine;
+ghost use mathlib.Core.Path.{_≡_};
+ghost use mathlib.Core.Bool.{true, cond};
+ghost use Prim.Native.Nat.{_+_, _*_, _≤_};
+ghost use lib.Dec.{ltb};
+ghost use lib.ListN.{length};
+ghost use Rattle.market.specs.Limits.{pathLimit, bidListWords, bidAnswerSize, bidAnswerWords};
+ghost use Rattle.bids.proofs.Walk.{soundList};
+ghost use Rattle.bids.specs.Bids.{bidsOf};
+ghost use Rattle.round.specs.Answers.{wonIn};
+ghost use Rattle.round_lines.specs.RoundLines.{winners};
+
+// How many bids a list of words has.
+pub fn bid_count(words: &[u32]) -> usize
+    requires { ⌜ length (now words) ≤ bidListWords ⌝ }
+    requires { ⌜ soundList pathLimit (now words) ≡ true ⌝ }
+    ensures { λ r. ⌜ r ≡ length (bidsOf (now (words .entry))) ⌝ }
+{
+    let mut k: usize = 0;
+    let mut place: usize = 0;
+    while place < words.len() {
+        k += 1;
+        place = bids::bid_end(words, place);
+    }
+    k
+}
+
+// 1 for a bid that won, and 0 for another.
+fn won_one(answers: &[u64], bid: usize) -> usize
+    requires { ⌜ (bid + 1) * bidAnswerSize ≤ length (now answers) ⌝ }
+    ensures { λ r. ⌜ r ≡ cond (ltb 0 (wonIn (now (answers .entry)) bid)) 1 0 ⌝ }
+{
+    if 0 < answers[bid * Engine::BID_ANSWER_SIZE + 2] {
+        return 1;
+    }
+    0
+}
+
+// How many bids won.
+pub fn winner_count(words: &[u32], answers: &[u64]) -> usize
+    requires { ⌜ length (now words) ≤ bidListWords ⌝ }
+    requires { ⌜ soundList pathLimit (now words) ≡ true ⌝ }
+    requires { ⌜ bidAnswerWords ≤ length (now answers) ⌝ }
+    ensures { λ r. ⌜ r ≡ winners (now (answers .entry)) 0 (bidsOf (now (words .entry))) ⌝ }
+{
+    let mut count: usize = 0;
+    let mut k: usize = 0;
+    let mut place: usize = 0;
+    while place < words.len() {
+        count += won_one(answers, k);
+        k += 1;
+        place = bids::bid_end(words, place);
+    }
+    count
+}

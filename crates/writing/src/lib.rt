@@ -1,0 +1,56 @@
+// Numbers and words put into the buffer, each with the byte behind it.
+ghost use mathlib.Core.Path.{_≡_};
+ghost use mathlib.Core.List.{_++_, _∷_, []};
+ghost use Prim.Native.Nat.{_+_, _≤_};
+ghost use lib.ListN.{length};
+ghost use Rattle.text.specs.Put.{putAt};
+ghost use Rattle.fields.specs.Fields.{countLine};
+ghost use Rattle.fields.proofs.FieldLaws.{fieldText, numbersText};
+
+// A number and the byte that ends it.
+pub fn put_field(out: &mut [u8], at: usize, n: u64, stop: u8) -> usize
+    requires { ⌜ at + length (fieldText n stop) ≤ length (now out) ⌝ }
+    ensures place { λ r. ⌜ r ≡ at + length (fieldText n stop) ⌝ }
+    ensures bytes { λ _. ⌜ now (out .exit) ≡ putAt (now (out .entry)) at (fieldText n stop) ⌝ }
+{
+    let end = text::put_number(out, at, n);
+    out[end] = stop;
+    end + 1
+}
+
+// A word and the byte that ends it.
+pub fn put_word(out: &mut [u8], at: usize, word: &[u8], stop: u8) -> usize
+    requires { ⌜ at + length (now word ++ (stop ∷ [])) ≤ length (now out) ⌝ }
+    ensures place { λ r. ⌜ r ≡ at + length (now (word .entry) ++ (stop ∷ [])) ⌝ }
+    ensures bytes { λ _. ⌜ now (out .exit) ≡ putAt (now (out .entry)) at (now (word .entry) ++ (stop ∷ [])) ⌝ }
+{
+    let next = text::put_bytes(out, at, word);
+    out[next] = stop;
+    next + 1
+}
+
+// Numbers with a space between them, the last ended by another byte.
+pub fn put_numbers(out: &mut [u8], at: usize, numbers: &[u64], last: u8) -> usize
+    requires { ⌜ 1 ≤ length (now numbers) ⌝ }
+    requires { ⌜ at + length (numbersText last (now numbers)) ≤ length (now out) ⌝ }
+    ensures place { λ r. ⌜ r ≡ at + length (numbersText last (now (numbers .entry))) ⌝ }
+    ensures bytes { λ _. ⌜ now (out .exit) ≡ putAt (now (out .entry)) at (numbersText last (now (numbers .entry))) ⌝ }
+{
+    let mut place = at;
+    let mut i: usize = 0;
+    while 1 < numbers.len() - i {
+        place = put_field(out, place, numbers[i], fields::SPACE);
+        i += 1;
+    }
+    put_field(out, place, numbers[i], last)
+}
+
+// A word and a number, on a line of their own.
+pub fn put_count(out: &mut [u8], at: usize, word: &[u8], n: u64) -> usize
+    requires { ⌜ at + length (countLine (now word) n) ≤ length (now out) ⌝ }
+    ensures place { λ r. ⌜ r ≡ at + length (countLine (now (word .entry)) n) ⌝ }
+    ensures bytes { λ _. ⌜ now (out .exit) ≡ putAt (now (out .entry)) at (countLine (now (word .entry)) n) ⌝ }
+{
+    let next = put_word(out, at, word, fields::SPACE);
+    put_field(out, next, n, fields::NEWLINE)
+}
