@@ -13,9 +13,9 @@ use mir.Val.{SFits}
 use borrow.Author.Tests.{eq-eqb, ne-eqb, leb-true}
 use Rattle.market.proofs.Tests.{right-true}
 use Rattle.text.specs.Decimal.{digitsIn, valueFrom, plain}
-use Rattle.lines.specs.Fields.{space, startsWith}
-use Rattle.lines.specs.declared.fields.Field.{Field}
-use Rattle.lines.proofs.ReadLaws.{starts-fit}
+use Rattle.fields.specs.Fields.{space, startsWith}
+use Rattle.fields.specs.declared.Field.{Field}
+use Rattle.fields.proofs.ReadLaws.{starts-fit}
 use Rattle.journal_fields.specs.declared.Price.{Price}
 use Rattle.journal_fields.specs.JournalFields.{noField, numeralWithin, numeralOf, numeral, behind, number, closing, lastNumber, choice, minus, noPrice, aboveZero, belowZero, price, priceTop}
 
@@ -55,6 +55,14 @@ number-within limit text = go (startsWith (space ∷ []) text)
 
     go : (t : Bool) → (cond t (behind 1 (numeral limit (drop 1 text))) noField) .value ≤ limit
     go true = behind-within limit 1 (numeral limit (drop 1 text)) (eqb (numeral limit (drop 1 text) .used) 0) (numeral-within limit (drop 1 text))
+    go false = omega arith
+
+pub last-within : (limit : ℕ) (text : List ℕ) → lastNumber limit text .value ≤ limit
+unfolding lastNumber
+last-within limit text = go (eqb (number limit text .used) (length text))
+  where
+    go : (t : Bool) → (cond t (number limit text) noField) .value ≤ limit
+    go true = number-within limit text
     go false = omega arith
 
 -- ---- A field at a place

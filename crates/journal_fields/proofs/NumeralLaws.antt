@@ -10,7 +10,7 @@ use borrow.Author.Tests.{le-leb, lt-leb, leb-true, leb-false, eq-eqb, ne-eqb}
 use Rattle.text.specs.Decimal.{zeroByte, isDigit, digitsIn, valueFrom, plain}
 use Rattle.text.proofs.DecimalLaws.{is-digit}
 use Rattle.text.proofs.ReadLaws.{below-digits, above-digits, past-text, past-digits, first-digit}
-use Rattle.lines.specs.declared.fields.Field.{Field}
+use Rattle.fields.specs.declared.Field.{Field}
 use Rattle.journal_fields.specs.JournalFields.{noField, numeralOf, numeral}
 
 -- digits only add to what was read before them

@@ -7,8 +7,8 @@ use lib.Dec.{leb, eqb}
 use lib.IntN.{ℤ, pos, negℤ}
 use lib.ListN.{length, drop}
 use Rattle.text.specs.Decimal.{digitsIn, plain, valueFrom}
-use Rattle.lines.specs.Fields.{space, wordTop, startsWith}
-use Rattle.lines.specs.declared.fields.Field.{Field}
+use Rattle.fields.specs.Fields.{space, wordTop, startsWith}
+use Rattle.fields.specs.declared.Field.{Field}
 use Rattle.journal_fields.specs.declared.Price.{Price}
 
 -- "numbers over 64 bits" are refused; a price has a sign beside its 63 bits

@@ -1,7 +1,6 @@
 // The fields of a journal's line, each read at a place of it with the space before it. What is read is given by the bytes that it takes,
 // and these are 0 where it does not stand there.
-use lines::fields;
-use lines::fields::Field;
+use fields::Field;
 ghost use mathlib.Core.Path.{_≡_};
 ghost use Prim.Native.Nat.{_+_, _≤_};
 ghost use lib.IntN.{pos, negℤ};
@@ -28,6 +27,14 @@ pub struct Price {
 pub struct Run {
     pub count: usize,
     pub used: usize,
+}
+
+// What stands from a place of a line on.
+pub fn behind(line: &[u8], at: usize) -> &[u8]
+    requires { ⌜ at ≤ length (now line) ⌝ }
+    ensures { λ r. ⌜ now r ≡ drop at (now (line .entry)) ⌝ }
+{
+    &line[at..]
 }
 
 // The number at a place, up to a limit.

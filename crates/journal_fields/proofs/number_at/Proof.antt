@@ -3,7 +3,7 @@ use native.Mathlib.Omega.{arith}
 use mathlib.Core.Path.{sym, _∙_}
 use mathlib.Core.List.{[], _∷_}
 use borrow.Author.Tests.{not-true, not-false}
-use Rattle.lines.specs.Fields.{space}
+use Rattle.fields.specs.Fields.{space}
 use Rattle.journal_fields.proofs.FieldLaws.{word-room, number-absent, number-empty, number-here}
 use borrow.Author.Needs.{needs}
 use Rattle.journal_fields.proofs.number_at.Statement.{statement}

@@ -4,7 +4,7 @@ use mathlib.Core.Path.{sym, _∙_, ap, subst}
 use Prim.Native.Nat.{ℕ, _+_, _≤_}
 use lib.IntN.{ℤ}
 use mir.Facts.{toZ-ofZ}
-use Rattle.lines.specs.declared.fields.Field.{Field}
+use Rattle.fields.specs.declared.Field.{Field}
 use Rattle.journal_fields.specs.JournalFields.{minus, priceTop}
 use Rattle.journal_fields.specs.declared.Price.{Price}
 use Rattle.journal_fields.proofs.FieldLaws.{word-room, numeral-within, number-within, price-zero, price-below, price-above}

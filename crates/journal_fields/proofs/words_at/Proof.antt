@@ -3,8 +3,8 @@ use native.Mathlib.Omega.{arith}
 use mathlib.Core.Path.{sym, _∙_, ap, subst}
 use Prim.Native.Nat.{ℕ, _+_, _≤_}
 use lib.ListN.{drop, set}
-use Rattle.lines.specs.Fields.{wordTop}
-use Rattle.lines.specs.declared.fields.Field.{Field}
+use Rattle.fields.specs.Fields.{wordTop}
+use Rattle.fields.specs.declared.Field.{Field}
 use Rattle.journal_fields.proofs.FieldLaws.{number-within}
 use Prim.Native.Nat.{_-_}
 use lib.ListN.{length}

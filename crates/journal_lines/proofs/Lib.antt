@@ -1,0 +1,3 @@
+-- Laws about the lines of a journal.
+pub mod VerbLaws
+pub mod SaidLaws

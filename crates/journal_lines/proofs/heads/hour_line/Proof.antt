@@ -1,0 +1,53 @@
+use borrow.Author.Needs.{needs}
+use native.Mathlib.Omega.{arith}
+use mathlib.Core.Path.{sym, _∙_, ap, subst}
+use Prim.Native.Nat.{ℕ, _+_, _≤_}
+use lib.ListN.{drop, length}
+use Rattle.fields.specs.declared.Field.{Field}
+use Rattle.fields.specs.Fields.{wordTop}
+use Rattle.journal_fields.proofs.FieldLaws.{number-within}
+use Rattle.journal_lines.proofs.SaidLaws.{hour-same}
+use lib.ListN.{length-drop}
+use borrow.Author.Needs.{needs}
+use Rattle.journal_lines.proofs.heads.hour_line.Statement.{statement}
+use Rattle.journal_lines.proofs.heads.hour_line.Tie as tie
+
+number-at-requires : tie.Need-number-at-requires
+number-at-requires c κs = search needs
+
+slice-aggregate-choice-at : tie.Need-slice-aggregate-choice-at
+slice-aggregate-choice-at c = search needs
+
+slice-aggregate-choice-at-2 : tie.Need-slice-aggregate-choice-at-2
+slice-aggregate-choice-at-2 c = search needs
+
+choice-at-requires : tie.Need-choice-at-requires
+choice-at-requires c κs = search needs
+
+cast-t13 : tie.Need-cast-t13
+cast-t13 c =
+    let d = c .before .before .before .before .before .before .number-at in
+    let a = c .before .before .before .before .before .before .before .before .args in
+    omega (arith, subst (λ (f : Field). f .value ≤ wordTop) (sym (d .ensures .0)) (number-within wordTop (a .text .now)))
+
+add-t16 : tie.Need-add-t16
+add-t16 c = search needs
+
+returns : tie.Need-returns
+returns c =
+    let a = c .before .before .before .before .before .before .before .before .before .before .before .args in
+    let d = c .before .before .before .before .before .before .before .before .before .number-at in
+    let h = c .before .before .before .before .before .before .choice-at in
+    (hour-same (a .text .now) (d .result) (h .result) (d .ensures .0) (h .ensures .0), omega (arith, d .ensures .1, h .ensures .1))
+
+pub hour-line-spec : {M : Type 1} → statement M
+hour-line-spec =
+    tie.close
+    (tie.spec
+    number-at-requires
+    slice-aggregate-choice-at
+    slice-aggregate-choice-at-2
+    choice-at-requires
+    cast-t13
+    add-t16
+    returns)

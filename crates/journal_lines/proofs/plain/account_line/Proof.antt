@@ -1,0 +1,83 @@
+use borrow.Author.Needs.{needs}
+use native.Mathlib.Omega.{arith}
+use mathlib.Core.Path.{sym, _∙_, ap, subst}
+use Prim.Native.Nat.{ℕ, _+_, _≤_}
+use lib.ListN.{drop, length}
+use Rattle.fields.specs.declared.Field.{Field}
+use Rattle.fields.specs.Fields.{wordTop}
+use Rattle.journal_fields.proofs.FieldLaws.{number-within}
+use borrow.Author.Tests.{not-true, not-false}
+use mathlib.Core.Bool.{_&&_}
+use Rattle.funding.specs.declared.Funds.{Funds}
+use Rattle.engine.specs.declared.calls.Call.{Call}
+use Rattle.journal_lines.specs.Journal.{stands, whole, fundsOf, accountCall}
+use Rattle.journal_lines.proofs.SaidLaws.{faulty, called, account-same}
+use Rattle.journal_lines.specs.declared.Said.the-variants.{Called}
+use borrow.Author.Needs.{needs}
+use Rattle.journal_lines.proofs.plain.account_line.Statement.{statement}
+use Rattle.journal_lines.proofs.plain.account_line.Tie as tie
+
+number-at-requires : tie.Need-number-at-requires
+number-at-requires c κs = search needs
+
+slice-aggregate-choice-at : tie.Need-slice-aggregate-choice-at
+slice-aggregate-choice-at c = search needs
+
+slice-aggregate-choice-at-2 : tie.Need-slice-aggregate-choice-at-2
+slice-aggregate-choice-at-2 c = search needs
+
+choice-at-requires : tie.Need-choice-at-requires
+choice-at-requires c κs = search needs
+
+add-last-number : tie.Need-add-last-number
+add-last-number c = search needs
+
+last-number-requires : tie.Need-last-number-requires
+last-number-requires c κs = search needs
+
+returns : tie.Need-returns
+returns c =
+    let a = c .before .before .before .before .before .before .before .before .before .before .before .before .args in
+    let b = c .before .before .before .before .before .before .before .before .before .before .number-at in
+    let f = c .before .before .before .before .before .before .before .choice-at in
+    let m = c .before .before .before .before .last-number in
+    faulty (stands (b .result) && stands (f .result) && stands (m .result)) (accountCall (a .deposit) (b .result .value) (fundsOf (f .result .value)) (m .result .value)) 0 0 (not-true (stands (b .result) && stands (f .result) && stands (m .result)) (c .if1 .taken)) ∙ account-same (a .text .now) (a .deposit) (b .result) (f .result) (m .result) (b .ensures .0) (f .ensures .0) (m .ensures .0)
+
+cast-account-call : tie.Need-cast-account-call
+cast-account-call c =
+    let b = c .before .before .before .before .before .before .before .before .before .before .before .number-at in
+    let a = c .before .before .before .before .before .before .before .before .before .before .before .before .before .args in
+    omega (arith, subst (λ (f : Field). f .value ≤ wordTop) (sym (b .ensures .0)) (number-within wordTop (a .text .now)))
+
+funds-of-requires : tie.Need-funds-of-requires
+funds-of-requires c κs = search needs
+
+account-call-requires : tie.Need-account-call-requires
+account-call-requires c κs = search needs
+
+returns-2 : tie.Need-returns-2
+returns-2 c =
+    let a = c .before .before .before .before .before .before .before .before .before .before .before .before .before .before .before .args in
+    let b = c .before .before .before .before .before .before .before .before .before .before .before .before .before .number-at in
+    let f = c .before .before .before .before .before .before .before .before .before .before .choice-at in
+    let m = c .before .before .before .before .before .before .before .last-number in
+    let is = c .account-call .ensures ∙ ap (λ (x : Funds). accountCall (a .deposit) (b .result .value) x (m .result .value)) (c .before .funds-of .ensures) in
+    ap (λ (x : Call). Called x 0 0) is
+    ∙ called (stands (b .result) && stands (f .result) && stands (m .result)) (accountCall (a .deposit) (b .result .value) (fundsOf (f .result .value)) (m .result .value)) 0 0 (not-false (stands (b .result) && stands (f .result) && stands (m .result)) (c .before .before .before .if1 .left))
+    ∙ account-same (a .text .now) (a .deposit) (b .result) (f .result) (m .result) (b .ensures .0) (f .ensures .0) (m .ensures .0)
+
+pub account-line-spec : {M : Type 1} → statement M
+account-line-spec =
+    tie.close
+    (tie.spec
+    number-at-requires
+    slice-aggregate-choice-at
+    slice-aggregate-choice-at-2
+    choice-at-requires
+    add-last-number
+    last-number-requires
+    returns
+    cast-account-call
+    funds-of-requires
+    account-call-requires
+    returns-2)

@@ -1,0 +1,31 @@
+use borrow.Author.Needs.{needs}
+use native.Mathlib.Omega.{arith}
+use mathlib.Core.Path.{sym, _∙_, ap, subst}
+use Prim.Native.Nat.{ℕ, _≤_}
+use lib.ListN.{drop, length}
+use Rattle.fields.specs.declared.Field.{Field}
+use Rattle.journal_lines.specs.Journal.{rentOf, rentSaid, stands}
+use Rattle.journal_lines.proofs.SaidLaws.{faulty, called, missing, standing}
+use Rattle.engine.specs.declared.calls.Call.the-variants as calls
+use Rattle.market.specs.Books.{cents, dayNumber}
+use borrow.Author.Needs.{needs}
+use Rattle.journal_lines.proofs.plain.rent_line.Statement.{statement}
+use Rattle.journal_lines.proofs.plain.rent_line.Tie as tie
+
+last-number-requires : tie.Need-last-number-requires
+last-number-requires c κs = search needs
+
+returns : tie.Need-returns
+unfolding rentSaid
+returns c =
+    let b = c .before .before .last-number in
+    faulty (stands (b .result)) (calls.Rent (cents (b .result .value))) 0 0 (missing (b .result) (c .if1 .taken)) ∙ ap rentOf (b .ensures .0)
+
+returns-2 : tie.Need-returns-2
+unfolding rentSaid
+returns-2 c =
+    let b = c .before .before .last-number in
+    called (stands (b .result)) (calls.Rent (cents (b .result .value))) 0 0 (standing (b .result) (c .if1 .left)) ∙ ap rentOf (b .ensures .0)
+
+pub rent-line-spec : {M : Type 1} → statement M
+rent-line-spec = tie.close (tie.spec last-number-requires returns returns-2)

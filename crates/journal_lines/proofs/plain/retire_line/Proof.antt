@@ -1,0 +1,39 @@
+use borrow.Author.Needs.{needs}
+use native.Mathlib.Omega.{arith}
+use mathlib.Core.Path.{sym, _∙_, ap, subst}
+use Prim.Native.Nat.{ℕ, _≤_}
+use lib.ListN.{drop, length}
+use Rattle.fields.specs.declared.Field.{Field}
+use Rattle.journal_lines.specs.Journal.{retireOf, retireSaid, stands}
+use Rattle.journal_lines.proofs.SaidLaws.{faulty, called, missing, standing}
+use Rattle.fields.specs.Fields.{wordTop}
+use Rattle.journal_fields.proofs.FieldLaws.{last-within}
+use Rattle.engine.specs.declared.calls.Call.the-variants as calls
+use Rattle.market.specs.Books.{cents, dayNumber}
+use borrow.Author.Needs.{needs}
+use Rattle.journal_lines.proofs.plain.retire_line.Statement.{statement}
+use Rattle.journal_lines.proofs.plain.retire_line.Tie as tie
+
+last-number-requires : tie.Need-last-number-requires
+last-number-requires c κs = search needs
+
+returns : tie.Need-returns
+unfolding retireSaid
+returns c =
+    let b = c .before .before .last-number in
+    faulty (stands (b .result)) (calls.Retire (dayNumber (b .result .value))) 0 0 (missing (b .result) (c .if1 .taken)) ∙ ap retireOf (b .ensures .0)
+
+cast-t5 : tie.Need-cast-t5
+cast-t5 c =
+    let b = c .before .before .before .last-number in
+    let a = c .before .before .before .before .before .args in
+    omega (arith, subst (λ (f : Field). f .value ≤ wordTop) (sym (b .ensures .0)) (last-within wordTop (a .text .now)))
+
+returns-2 : tie.Need-returns-2
+unfolding retireSaid
+returns-2 c =
+    let b = c .before .before .before .last-number in
+    called (stands (b .result)) (calls.Retire (dayNumber (b .result .value))) 0 0 (standing (b .result) (c .before .if1 .left)) ∙ ap retireOf (b .ensures .0)
+
+pub retire-line-spec : {M : Type 1} → statement M
+retire-line-spec = tie.close (tie.spec last-number-requires returns cast-t5 returns-2)

@@ -1,0 +1,73 @@
+use borrow.Author.Needs.{needs}
+use native.Mathlib.Omega.{arith}
+use mathlib.Core.Path.{sym, _∙_, ap, subst}
+use Prim.Native.Nat.{ℕ, _+_, _≤_}
+use lib.ListN.{drop, length}
+use mathlib.Core.Bool.{_&&_}
+use borrow.Author.Tests.{not-true, not-false, eq-eqb, ne-eqb}
+use lib.Dec.{eqb}
+use Prim.Native.Nat.{_%_}
+use Rattle.journal_lines.proofs.SaidLaws.{faulty, called, share-same}
+use Rattle.engine.specs.declared.calls.Call.{Call}
+use Rattle.engine.specs.declared.calls.Call.the-variants as calls
+use Rattle.journal_lines.specs.Journal.{stands, ends, shareCall, columnWords, opening, hourLine}
+use Rattle.journal_fields.specs.JournalFields.{laid, wordsSaid, pricesSaid}
+use Rattle.market.specs.Limits.{quantityWords, zones}
+use Rattle.journal_lines.specs.declared.heads.Opening.{Opening}
+use Rattle.journal_lines.specs.declared.heads.HourLine.{HourLine}
+use Rattle.fields.specs.declared.Field.{Field}
+use Rattle.journal_lines.specs.declared.Said.the-variants.{Called}
+use borrow.Author.Needs.{needs}
+use Rattle.journal_lines.proofs.share_line.Statement.{statement}
+use Rattle.journal_lines.proofs.share_line.Tie as tie
+
+number-at-requires : tie.Need-number-at-requires
+number-at-requires c κs = search needs
+
+words-at-requires : tie.Need-words-at-requires
+words-at-requires c κs = search needs
+
+add-if1 : tie.Need-add-if1
+add-if1 c = search needs
+
+same-length : tie.Need-same-length
+same-length c = search needs
+
+returns : tie.Need-returns
+returns c =
+    let a = c .before .before .before .before .before .before .before .before .before .before .before .before .args in
+    let run = c .before .before .before .before .before .before .before .words-at in
+    let cap = length (a .words .now) in
+    let h = c .before .before .before .before .before .before .before .before .before .number-at in (
+      faulty (stands (h .result) && ends (a .text .now) (h .result .used) (run .result .used) && eqb (run .result .count) columnWords) (shareCall (a .disburse) (h .result .value)) (run .result .count) 0 (not-true (stands (h .result) && ends (a .text .now) (h .result .used) (run .result .used) && eqb (run .result .count) columnWords) (c .if1 .taken)) ∙ share-same (a .text .now) cap (run .result .count) (run .result .used) (a .disburse) (h .result) (h .ensures .0) (run .ensures .0) (run .ensures .1 .0),
+      run .ensures .1 .1 .1 ∙ ap (λ (x : Field). laid (wordsSaid cap (drop (x .used) (a .text .now))) (a .words .now)) (h .ensures .0),
+    )
+
+share-call-requires : tie.Need-share-call-requires
+share-call-requires c κs = search needs
+
+same-length-2 : tie.Need-same-length-2
+same-length-2 c = search needs
+
+returns-2 : tie.Need-returns-2
+returns-2 c =
+    let a = c .before .before .before .before .before .before .before .before .before .before .before .before .before .args in
+    let run = c .before .before .before .before .before .before .before .before .words-at in
+    let cap = length (a .words .now) in
+    let h = c .before .before .before .before .before .before .before .before .before .before .number-at in (
+      ap (λ (x : Call). Called x (run .result .count) 0) (c .share-call .ensures) ∙ called (stands (h .result) && ends (a .text .now) (h .result .used) (run .result .used) && eqb (run .result .count) columnWords) (shareCall (a .disburse) (h .result .value)) (run .result .count) 0 (not-false (stands (h .result) && ends (a .text .now) (h .result .used) (run .result .used) && eqb (run .result .count) columnWords) (c .before .if1 .left)) ∙ share-same (a .text .now) cap (run .result .count) (run .result .used) (a .disburse) (h .result) (h .ensures .0) (run .ensures .0) (run .ensures .1 .0),
+      run .ensures .1 .1 .1 ∙ ap (λ (x : Field). laid (wordsSaid cap (drop (x .used) (a .text .now))) (a .words .now)) (h .ensures .0),
+    )
+
+pub share-line-spec : {M : Type 1} → statement M
+share-line-spec =
+    tie.close
+    (tie.spec
+    number-at-requires
+    words-at-requires
+    add-if1
+    same-length
+    returns
+    share-call-requires
+    same-length-2
+    returns-2)

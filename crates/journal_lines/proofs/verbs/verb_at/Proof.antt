@@ -1,0 +1,87 @@
+use borrow.Author.Needs.{needs}
+use native.Mathlib.Omega.{arith}
+use mathlib.Core.Path.{sym, _∙_}
+use Rattle.fields.proofs.ReadLaws.{starts-fit}
+use Rattle.fields.specs.Fields.{startsWith}
+use Rattle.journal_lines.specs.declared.verbs.Verb.the-variants.{Deposit, Withdraw, Open, Round}
+use Rattle.journal_lines.specs.Verbs.{named, depositWord, withdrawWord, openWord, roundWord, verbAt, laterVerb}
+use Rattle.journal_lines.proofs.VerbLaws.{first-stands, second-stands, third-stands, fourth-stands, none-stands}
+use borrow.Author.Needs.{needs}
+use Rattle.journal_lines.proofs.verbs.verb_at.Statement.{statement}
+use Rattle.journal_lines.proofs.verbs.verb_at.Tie as tie
+
+slice-aggregate-starts-with : tie.Need-slice-aggregate-starts-with
+slice-aggregate-starts-with c = search needs
+
+starts-with-requires : tie.Need-starts-with-requires
+starts-with-requires c κs = search needs
+
+returns : tie.Need-returns
+unfolding verbAt
+returns c =
+    let line = c .before .before .before .before .args .line .now in
+    (first-stands (startsWith depositWord line) (startsWith withdrawWord line) (startsWith openWord line) (startsWith roundWord line) (named Deposit 7) (named Withdraw 8) (named Open 4) (named Round 5) (laterVerb line) (sym (c .before .starts-with .ensures) ∙ c .if1 .taken), starts-fit depositWord line (sym (c .before .starts-with .ensures) ∙ c .if1 .taken))
+
+slice-aggregate-starts-with-2 : tie.Need-slice-aggregate-starts-with-2
+slice-aggregate-starts-with-2 c = search needs
+
+starts-with-requires-2 : tie.Need-starts-with-requires-2
+starts-with-requires-2 c κs = search needs
+
+returns-2 : tie.Need-returns-2
+unfolding verbAt
+returns-2 c =
+    let line = c .before .before .before .before .before .before .before .args .line .now in
+    (second-stands (startsWith depositWord line) (startsWith withdrawWord line) (startsWith openWord line) (startsWith roundWord line) (named Deposit 7) (named Withdraw 8) (named Open 4) (named Round 5) (laterVerb line) (sym (c .before .before .before .before .starts-with .ensures) ∙ c .before .before .before .if1 .left) (sym (c .before .starts-with2 .ensures) ∙ c .if2 .taken), starts-fit withdrawWord line (sym (c .before .starts-with2 .ensures) ∙ c .if2 .taken))
+
+slice-aggregate-starts-with-3 : tie.Need-slice-aggregate-starts-with-3
+slice-aggregate-starts-with-3 c = search needs
+
+starts-with-requires-3 : tie.Need-starts-with-requires-3
+starts-with-requires-3 c κs = search needs
+
+returns-3 : tie.Need-returns-3
+unfolding verbAt
+returns-3 c =
+    let line = c .before .before .before .before .before .before .before .before .before .before .args .line .now in
+    (third-stands (startsWith depositWord line) (startsWith withdrawWord line) (startsWith openWord line) (startsWith roundWord line) (named Deposit 7) (named Withdraw 8) (named Open 4) (named Round 5) (laterVerb line) (sym (c .before .before .before .before .before .before .before .starts-with .ensures) ∙ c .before .before .before .before .before .before .if1 .left) (sym (c .before .before .before .before .starts-with2 .ensures) ∙ c .before .before .before .if2 .left) (sym (c .before .starts-with3 .ensures) ∙ c .if3 .taken), starts-fit openWord line (sym (c .before .starts-with3 .ensures) ∙ c .if3 .taken))
+
+slice-aggregate-starts-with-4 : tie.Need-slice-aggregate-starts-with-4
+slice-aggregate-starts-with-4 c = search needs
+
+starts-with-requires-4 : tie.Need-starts-with-requires-4
+starts-with-requires-4 c κs = search needs
+
+returns-4 : tie.Need-returns-4
+unfolding verbAt
+returns-4 c =
+    let line = c .before .before .before .before .before .before .before .before .before .before .before .before .before .args .line .now in
+    (fourth-stands (startsWith depositWord line) (startsWith withdrawWord line) (startsWith openWord line) (startsWith roundWord line) (named Deposit 7) (named Withdraw 8) (named Open 4) (named Round 5) (laterVerb line) (sym (c .before .before .before .before .before .before .before .before .before .before .starts-with .ensures) ∙ c .before .before .before .before .before .before .before .before .before .if1 .left) (sym (c .before .before .before .before .before .before .before .starts-with2 .ensures) ∙ c .before .before .before .before .before .before .if2 .left) (sym (c .before .before .before .before .starts-with3 .ensures) ∙ c .before .before .before .if3 .left) (sym (c .before .starts-with4 .ensures) ∙ c .if4 .taken), starts-fit roundWord line (sym (c .before .starts-with4 .ensures) ∙ c .if4 .taken))
+
+later-verb-requires : tie.Need-later-verb-requires
+later-verb-requires c κs = search needs
+
+returns-5 : tie.Need-returns-5
+unfolding verbAt
+returns-5 c =
+    let line = c .before .before .before .before .before .before .before .before .before .before .before .before .before .before .args .line .now in
+    (c .later-verb .ensures .0 ∙ none-stands (startsWith depositWord line) (startsWith withdrawWord line) (startsWith openWord line) (startsWith roundWord line) (named Deposit 7) (named Withdraw 8) (named Open 4) (named Round 5) (laterVerb line) (sym (c .before .before .before .before .before .before .before .before .before .before .before .starts-with .ensures) ∙ c .before .before .before .before .before .before .before .before .before .before .if1 .left) (sym (c .before .before .before .before .before .before .before .before .starts-with2 .ensures) ∙ c .before .before .before .before .before .before .before .if2 .left) (sym (c .before .before .before .before .before .starts-with3 .ensures) ∙ c .before .before .before .before .if3 .left) (sym (c .before .before .starts-with4 .ensures) ∙ c .before .if4 .left), c .later-verb .ensures .1)
+
+pub verb-at-spec : {M : Type 1} → statement M
+verb-at-spec =
+    tie.close
+    (tie.spec
+    slice-aggregate-starts-with
+    starts-with-requires
+    returns
+    slice-aggregate-starts-with-2
+    starts-with-requires-2
+    returns-2
+    slice-aggregate-starts-with-3
+    starts-with-requires-3
+    returns-3
+    slice-aggregate-starts-with-4
+    starts-with-requires-4
+    returns-4
+    later-verb-requires
+    returns-5)
