@@ -1,6 +1,6 @@
 -- docs/JOURNAL.md, "A line": "one space between fields, decimal": every field but the first stands behind one space. What is read at the front
 -- of a text is given by the bytes that it takes with that space, and these are 0 where it does not stand there.
-use mathlib.Core.Bool.{Bool, true, false, cond, _&&_}
+use mathlib.Core.Bool.{Bool, cond, not, _&&_}
 use mathlib.Core.List.{List, [], _∷_, _++_}
 use Prim.Native.Nat.{ℕ, zero, suc, _+_, _-_, _^_}
 use lib.Dec.{leb, eqb}
@@ -20,6 +20,9 @@ priceTop = 2 ^ 63 - 1
 
 abbrev pub noField : Field
 noField = record { value = 0; used = 0 }
+
+abbrev pub stands : Field → Bool
+stands f = not (eqb (f .used) 0)
 
 -- these digits are a number up to a limit: decimal without leading zeros
 abbrev pub numeralWithin : ℕ → List ℕ → Bool

@@ -12,12 +12,12 @@ use Rattle.engine.specs.declared.calls.Call.{Call}
 use Rattle.engine.specs.declared.calls.Call.the-variants.{Round}
 use Rattle.fields.specs.Fields.{wordTop}
 use Rattle.fields.specs.declared.Field.{Field}
-use Rattle.journal_fields.specs.JournalFields.{wideTop, number, lastNumber, choice, wordsSaid, wordsUsed, pricesSaid, pricesUsed, laid}
+use Rattle.journal_fields.specs.JournalFields.{stands, wideTop, number, lastNumber, choice, wordsSaid, wordsUsed, pricesSaid, pricesUsed, laid}
 use Rattle.journal_lines.specs.declared.Said.{Said}
 use Rattle.journal_lines.specs.declared.Said.the-variants.{Faulty, Called}
 use Rattle.journal_lines.specs.declared.heads.HourLine.{HourLine}
 use Rattle.journal_lines.specs.declared.heads.Opening.{Opening}
-use Rattle.journal_lines.specs.Journal.{stands, whole, accountOf, accountSaid, payOf, paySaid, openingOf, opening, ends, openedBy, openSaid, roundSaid, hourOf, hourLine, paidBy, payoutSaid, sharedBy, shareSaid, saidBy, wordsBy, pricesBy, lineSaid, lineWords, linePrices}
+use Rattle.journal_lines.specs.Journal.{whole, accountOf, accountSaid, payOf, paySaid, openingOf, opening, ends, openedBy, openSaid, roundSaid, hourOf, hourLine, paidBy, payoutSaid, sharedBy, shareSaid, saidBy, wordsBy, pricesBy, lineSaid, lineWords, linePrices}
 use Rattle.journal_lines.specs.declared.verbs.Named.{Named}
 use Rattle.journal_lines.specs.declared.verbs.Verb.{Verb}
 use Rattle.journal_lines.specs.Verbs as words

@@ -1,6 +1,6 @@
 -- docs/JOURNAL.md, "A line": what the fields behind a line's first word say, call by call. A line "that has not this form" says nothing, which is
 -- `Faulty`.
-use mathlib.Core.Bool.{Bool, true, false, cond, not, _&&_}
+use mathlib.Core.Bool.{Bool, true, false, cond, _&&_}
 use mathlib.Core.List.{List, []}
 use Prim.Native.Nat.{ℕ, _+_, _*_, _%_}
 use lib.Dec.{eqb}
@@ -17,7 +17,7 @@ use Rattle.engine.specs.declared.calls.Call.{Call}
 use Rattle.engine.specs.declared.calls.Call.the-variants.{Deposit, Withdraw, Open, Round, Pay, Default, Retire, Rent, Payout, Disburse, Recover}
 use Rattle.fields.specs.Fields.{wordTop}
 use Rattle.fields.specs.declared.Field.{Field}
-use Rattle.journal_fields.specs.JournalFields.{wideTop, number, lastNumber, choice, wordsSaid, wordsUsed, pricesSaid, pricesUsed}
+use Rattle.journal_fields.specs.JournalFields.{wideTop, stands, number, lastNumber, choice, wordsSaid, wordsUsed, pricesSaid, pricesUsed}
 use Rattle.journal_lines.specs.Verbs as words
 use Rattle.journal_lines.specs.declared.heads.HourLine.{HourLine}
 use Rattle.journal_lines.specs.declared.heads.Opening.{Opening}
@@ -26,9 +26,6 @@ use Rattle.journal_lines.specs.declared.Said.the-variants.{Faulty, Calle
 use Rattle.journal_lines.specs.declared.verbs.Named.{Named}
 use Rattle.journal_lines.specs.declared.verbs.Verb.{Verb}
 use Rattle.journal_lines.specs.declared.verbs.Verb.the-variants as verbs
-
-abbrev pub stands : Field → Bool
-stands f = not (eqb (f .used) 0)
 
 -- a call with so many words and so many prices in its lists, where all of its line stands
 abbrev pub whole : Bool → Call → ℕ → ℕ → Said

@@ -82,14 +82,6 @@ failedOption = 32 ∷ 102 ∷ 97 ∷ 105 ∷ 108 ∷ 101 ∷ 100 ∷ []
 abbrev pub pricedOption : List ℕ
 pricedOption = 32 ∷ 112 ∷ 114 ∷ 105 ∷ 99 ∷ 101 ∷ 100 ∷ []
 
--- " X"
-abbrev pub exportOption : List ℕ
-exportOption = 32 ∷ 88 ∷ []
-
--- " M"
-abbrev pub importOption : List ℕ
-importOption = 32 ∷ 77 ∷ []
-
 -- ---- The first word of a line, and how many bytes it takes
 
 abbrev pub named : Verb → ℕ → Named

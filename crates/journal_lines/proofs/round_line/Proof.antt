@@ -10,8 +10,8 @@ use Prim.Native.Nat.{_%_}
 use Rattle.journal_lines.proofs.SaidLaws.{faulty, called, round-same}
 use Rattle.engine.specs.declared.calls.Call.{Call}
 use Rattle.engine.specs.declared.calls.Call.the-variants as calls
-use Rattle.journal_lines.specs.Journal.{stands, ends, shareCall, columnWords, opening, hourLine}
-use Rattle.journal_fields.specs.JournalFields.{laid, wordsSaid, pricesSaid}
+use Rattle.journal_lines.specs.Journal.{ends, shareCall, columnWords, opening, hourLine}
+use Rattle.journal_fields.specs.JournalFields.{stands, laid, wordsSaid, pricesSaid}
 use Rattle.market.specs.Limits.{quantityWords, zones}
 use Rattle.journal_lines.specs.declared.heads.Opening.{Opening}
 use Rattle.journal_lines.specs.declared.heads.HourLine.{HourLine}

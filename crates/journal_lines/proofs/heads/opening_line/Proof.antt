@@ -10,7 +10,8 @@ use Rattle.journal_lines.proofs.SaidLaws.{opening-same}
 use Rattle.market.specs.declared.book.Kind.{Kind}
 use Rattle.journal_lines.specs.declared.heads.Opening.{Opening}
 use mathlib.Core.Bool.{_&&_}
-use Rattle.journal_lines.specs.Journal.{stands, periodOf}
+use Rattle.journal_fields.specs.JournalFields.{stands}
+use Rattle.journal_lines.specs.Journal.{periodOf}
 use borrow.Author.Needs.{needs}
 use Rattle.journal_lines.proofs.heads.opening_line.Statement.{statement}
 use Rattle.journal_lines.proofs.heads.opening_line.Tie as tie

@@ -10,7 +10,8 @@ use borrow.Author.Tests.{not-true, not-false}
 use mathlib.Core.Bool.{_&&_}
 use Rattle.funding.specs.declared.Funds.{Funds}
 use Rattle.engine.specs.declared.calls.Call.{Call}
-use Rattle.journal_lines.specs.Journal.{stands, whole, fundsOf, accountCall}
+use Rattle.journal_fields.specs.JournalFields.{stands}
+use Rattle.journal_lines.specs.Journal.{whole, fundsOf, accountCall}
 use Rattle.journal_lines.proofs.SaidLaws.{faulty, called, account-same}
 use Rattle.journal_lines.specs.declared.Said.the-variants.{Called}
 use borrow.Author.Needs.{needs}

@@ -8,7 +8,7 @@ use Rattle.fields.specs.Fields.{wordTop}
 use Rattle.journal_fields.proofs.FieldLaws.{number-within}
 use borrow.Author.Tests.{not-true, not-false}
 use mathlib.Core.Bool.{_&&_}
-use Rattle.journal_lines.specs.Journal.{stands}
+use Rattle.journal_fields.specs.JournalFields.{stands}
 use Rattle.journal_lines.proofs.SaidLaws.{faulty, called, pay-same}
 use Rattle.engine.specs.declared.calls.Call.the-variants as calls
 use Rattle.market.specs.Books.{cents}

@@ -4,7 +4,8 @@ use mathlib.Core.Path.{sym, _∙_, ap, subst}
 use Prim.Native.Nat.{ℕ, _≤_}
 use lib.ListN.{drop, length}
 use Rattle.fields.specs.declared.Field.{Field}
-use Rattle.journal_lines.specs.Journal.{retireOf, retireSaid, stands}
+use Rattle.journal_fields.specs.JournalFields.{stands}
+use Rattle.journal_lines.specs.Journal.{retireOf, retireSaid}
 use Rattle.journal_lines.proofs.SaidLaws.{faulty, called, missing, standing}
 use Rattle.fields.specs.Fields.{wordTop}
 use Rattle.journal_fields.proofs.FieldLaws.{last-within}

@@ -1,0 +1,84 @@
+use borrow.Author.Needs.{needs}
+use native.Mathlib.Omega.{arith}
+use mathlib.Core.Path.{sym, _∙_, ap, subst}
+use Prim.Native.Nat.{ℕ, _+_, _≤_}
+use lib.ListN.{drop}
+use borrow.Author.Tests.{not-true, not-false}
+use mathlib.Core.Bool.{_&&_}
+use Rattle.market.specs.declared.book.Direction.{Direction}
+use Rattle.market.specs.declared.book.Route.{Route}
+use Rattle.fields.specs.Fields.{wordTop}
+use Rattle.fields.specs.declared.Field.{Field}
+use Rattle.journal_fields.specs.JournalFields.{stands}
+use Rattle.journal_fields.proofs.FieldLaws.{number-within}
+use Rattle.journal_fresh.specs.declared.RouteField.{RouteField}
+use Rattle.journal_fresh.proofs.RouteLaws.{route-none, route-here, routed}
+use borrow.Author.Needs.{needs}
+use Rattle.journal_fresh.proofs.route_at.Statement.{statement}
+use Rattle.journal_fresh.proofs.route_at.Tie as tie
+
+slice-aggregate-choice-at : tie.Need-slice-aggregate-choice-at
+slice-aggregate-choice-at c = search needs
+
+slice-aggregate-choice-at-2 : tie.Need-slice-aggregate-choice-at-2
+slice-aggregate-choice-at-2 c = search needs
+
+choice-at-requires : tie.Need-choice-at-requires
+choice-at-requires c κs = search needs
+
+add-number-at : tie.Need-add-number-at
+add-number-at c = search needs
+
+number-at-requires : tie.Need-number-at-requires
+number-at-requires c κs = search needs
+
+no-route-requires : tie.Need-no-route-requires
+no-route-requires c κs = search needs
+
+returns : tie.Need-returns
+returns c =
+    let a = c .before .before .before .before .before .before .before .before .before .before .args in
+    let w = c .before .before .before .before .before .before .choice-at in
+    let z = c .before .before .before .before .number-at in
+    (ap (λ (r : Route). routed r 0) (c .no-route .ensures) ∙ route-none (a .text .now) (a .at) (w .result) (z .result) (w .ensures .0) (z .ensures .0) (not-true (stands (w .result) && stands (z .result)) (c .before .if1 .taken)), search needs)
+
+way-of-requires : tie.Need-way-of-requires
+way-of-requires c κs = search needs
+
+cast-t18 : tie.Need-cast-t18
+cast-t18 c =
+    let w = c .before .before .before .before .before .before .before .choice-at in
+    let z = c .before .before .before .before .before .number-at in
+    let a = c .before .before .before .before .before .before .before .before .before .before .before .args in
+    omega (arith, subst (λ (f : Field). f .value ≤ wordTop) (sym (z .ensures .0)) (number-within wordTop (drop (a .at + w .result .used) (a .text .now))))
+
+add-t11 : tie.Need-add-t11
+add-t11 c = search needs
+
+returns-2 : tie.Need-returns-2
+returns-2 c =
+    let a = c .before .before .before .before .before .before .before .before .before .before .before .before .before .args in
+    let w = c .before .before .before .before .before .before .before .before .before .choice-at in
+    let z = c .before .before .before .before .before .before .before .number-at in
+    let zone = z .result .value in
+    let used = w .result .used + z .result .used in (
+      ap (λ (d : Direction). routed (record { direction = d; zone = zone }) used) (c .before .before .before .way-of .ensures)
+          ∙ route-here (a .text .now) (a .at) (w .result) (z .result) (w .ensures .0) (z .ensures .0) (not-false (stands (w .result) && stands (z .result)) (c .before .before .before .before .if1 .left)),
+      omega (arith, z .ensures .1),
+    )
+
+pub route-at-spec : {M : Type 1} → statement M
+route-at-spec =
+    tie.close
+    (tie.spec
+    slice-aggregate-choice-at
+    slice-aggregate-choice-at-2
+    choice-at-requires
+    add-number-at
+    number-at-requires
+    no-route-requires
+    returns
+    way-of-requires
+    cast-t18
+    add-t11
+    returns-2)

@@ -1,0 +1,67 @@
+-- docs/JOURNAL.md, "A line": "fresh D Z D Z ...", per path X or M and its zone.
+use mathlib.Core.Bool.{cond, _&&_}
+use mathlib.Core.List.{List, [], _∷_}
+use Prim.Native.Nat.{ℕ, _+_}
+use lib.Dec.{eqb}
+use lib.ListN.{length, take, drop, replicate}
+use Rattle.market.specs.Limits.{pathLimit}
+use Rattle.market.specs.declared.book.Direction.{Direction}
+use Rattle.market.specs.declared.book.Direction.the-variants.{Export, Import}
+use Rattle.market.specs.declared.book.Route.{Route}
+use Rattle.fields.specs.Fields.{wordTop}
+use Rattle.fields.specs.declared.Field.{Field}
+use Rattle.journal_fields.specs.JournalFields.{stands, number, choice, fieldsSaid, fieldsUsed, laid}
+use Rattle.journal_fresh.specs.declared.FreshLine.{FreshLine}
+use Rattle.journal_fresh.specs.declared.RouteField.{RouteField}
+
+-- " X"
+abbrev pub exportOption : List ℕ
+exportOption = 32 ∷ 88 ∷ []
+
+-- " M"
+abbrev pub importOption : List ℕ
+importOption = 32 ∷ 77 ∷ []
+
+abbrev pub wayOf : ℕ → Direction
+wayOf n = cond (eqb n 0) Export Import
+
+abbrev pub noRoute : Route
+noRoute = record { direction = Export; zone = 0 }
+
+-- a route at the front of a text, and the bytes that it takes, 0 where it does not stand there
+abbrev pub routeOf : Field → Field → RouteField
+routeOf w z =
+    cond (stands w && stands z)
+    (record { route = record { direction = wayOf (w .value); zone = z .value }; used = w .used + z .used })
+    (record { route = noRoute; used = 0 })
+
+unfoldable pub routeAt : List ℕ → RouteField
+routeAt text =
+    let w = choice exportOption importOption text in
+    routeOf w (number wordTop (drop (w .used) text))
+
+abbrev pub routeUsed : List ℕ → ℕ
+routeUsed text = routeAt text .used
+
+abbrev pub routeValue : List ℕ → Route
+routeValue text = routeAt text .route
+
+-- all routes of a text, and the bytes that they take
+abbrev pub routesSaid : List ℕ → List Route
+routesSaid text = fieldsSaid routeUsed routeValue (length text) text
+
+abbrev pub routesUsed : List ℕ → ℕ
+routesUsed text = fieldsUsed routeUsed routeValue (length text) text
+
+-- a slot for each path that a book may have
+abbrev pub noSlots : List Route
+noSlots = replicate pathLimit noRoute
+
+-- what stands behind the word "fresh": whether it goes on to the end, how many routes there are, and the first of them in their slots
+unfoldable pub freshSaid : List ℕ → FreshLine
+freshSaid text =
+    record {
+      stands = eqb (routesUsed text) (length text);
+      count = length (routesSaid text);
+      routes = laid (take pathLimit (routesSaid text)) noSlots;
+    }

@@ -1,0 +1,2 @@
+-- The line of a fresh book.
+pub mod FreshLines
