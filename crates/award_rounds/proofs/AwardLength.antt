@@ -24,7 +24,8 @@ use Rattle.awards.proofs.RoundLots.{EachBid}
 use Rattle.round.specs.Answers.{markIn, valueIn, wonIn, chargeIn, offeredIn, soldIn, priceIn}
 use Rattle.round_lines.specs.RoundLines.{markWord, bidLine, bidLines, priceField, pathLine, pathLines, awardLine, awardLines, winners, RoundMade, roundText}
 use Rattle.round_lines.specs.Phrases.{awardsWord, admittedWord, overWord, noPrice}
-use Rattle.award_sheet.specs.AwardSheet.{titleLine, roundsText, isBidder, bidderLine, bidderLines, awardText, formRefusal, refusedLine, refusedText}
+use Rattle.market.specs.Answers.{formRefusal}
+use Rattle.award_sheet.specs.AwardSheet.{titleLine, roundsText, isBidder, bidderLine, bidderLines, awardText, refusedLine, refusedText}
 use Rattle.award_sheet.specs.Phrases.{roundsWord, refusedWord, lineWord}
 
 -- ---- A line

@@ -4,7 +4,8 @@ ghost use Prim.Native.Nat.{_≤_};
 ghost use lib.ListN.{length};
 ghost use Rattle.market.specs.Limits.{awardSheetBytes};
 ghost use Rattle.text.specs.Put.{putAt};
-ghost use Rattle.award_sheet.specs.AwardSheet.{formRefusal, refusedLine, refusedText};
+ghost use Rattle.market.specs.Answers.{formRefusal};
+ghost use Rattle.award_sheet.specs.AwardSheet.{refusedLine, refusedText};
 
 // A refusal's number.
 pub fn refused(out: &mut [u8], number: u32) -> usize

@@ -58,9 +58,6 @@ awardText rounds b listed =
 -- ---- Refusals
 
 -- "a form fault prints only "refused 40 line L""
-abbrev pub formRefusal : ℕ
-formRefusal = 40
-
 abbrev pub refusedLine : ℕ → ℕ → List ℕ
 refusedLine number at = line (words.refusedWord ∷ decimal number ∷ words.lineWord ∷ decimal at ∷ [])
 

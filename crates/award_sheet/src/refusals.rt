@@ -1,12 +1,11 @@
 // The line that is printed where no award sheet is.
+use market::answer::Refusal;
 ghost use mathlib.Core.Path.{_≡_};
 ghost use Prim.Native.Nat.{_≤_};
 ghost use lib.ListN.{length};
 ghost use Rattle.text.specs.Put.{putAt};
-ghost use Rattle.award_sheet.specs.AwardSheet.{formRefusal, refusedLine, refusedText};
-
-// The refusal of a sheet that has not the form.
-pub const FORM: u32 = 40;
+ghost use Rattle.market.specs.Answers.{formRefusal};
+ghost use Rattle.award_sheet.specs.AwardSheet.{refusedLine, refusedText};
 
 // A refusal's number, at the front of the buffer.
 pub fn put_refused(out: &mut [u8], number: u32) -> usize
@@ -24,6 +23,6 @@ pub fn put_faulty(out: &mut [u8], line: u32) -> usize
     ensures bytes { λ _. ⌜ now (out .exit) ≡ putAt (now (out .entry)) 0 (refusedLine formRefusal line) ⌝ }
 {
     let named = text::put_bytes(out, 0, b"refused ");
-    let numbered = writing::put_field(out, named, FORM as u64, fields::SPACE);
+    let numbered = writing::put_field(out, named, Refusal::FORM as u64, fields::SPACE);
     writing::put_count(out, numbered, b"line", line as u64)
 }

@@ -11,7 +11,8 @@ use Rattle.sheets.specs.Form.{formOf}
 use Rattle.sheets.specs.Reading.{sheetIn}
 use Rattle.sheets.specs.declared.form.Form.{Form}
 use Rattle.sheets.specs.declared.form.Form.the-variants.{Right, Faulty}
-use Rattle.award_sheet.specs.AwardSheet.{formRefusal, refusedLine}
+use Rattle.market.specs.Answers.{formRefusal}
+use Rattle.award_sheet.specs.AwardSheet.{refusedLine}
 use Rattle.desk.specs.Desk.{sheetOutput, byForm, outputOf, longEnough, answerIf, bufferIf, answerTo, bufferAfter}
 use Rattle.desk.specs.declared.Reply.the-variants.{Written, Refused}
 

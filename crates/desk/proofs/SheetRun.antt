@@ -35,7 +35,7 @@ use Rattle.sheets.specs.Words.{wordsOf}
 use Rattle.sheets.specs.declared.form.Form.the-variants.{Right}
 use Rattle.sheets.specs.declared.rows.BidderLine.{BidderLine}
 use Rattle.sheets.specs.declared.rows.PathLine.{PathLine}
-use Rattle.preparing.proofs.PreparingLaws.{none-refused}
+use Rattle.market.proofs.Tables.{none-refused}
 use Rattle.preparing.specs.Preparing.{unlessRefused, andThen, depositIf, lineDeposits, deposits, routesOf, quantitiesOf, emptyRegister, opened}
 use Rattle.preparing.specs.PreparedSlots.{isListed}
 use Rattle.award_sheet.specs.AwardSheet.{isBidder, refusedText}

@@ -19,7 +19,8 @@ use Rattle.preparing.specs.Preparing.{opened}
 use Rattle.round_output.specs.Rounds.{outputFrom}
 use Rattle.desk.specs.declared.Reply.{Reply}
 use Rattle.desk.specs.declared.Reply.the-variants.{Written, Refused}
-use Rattle.award_sheet.specs.AwardSheet.{formRefusal, refusedLine}
+use Rattle.market.specs.Answers.{formRefusal}
+use Rattle.award_sheet.specs.AwardSheet.{refusedLine}
 
 -- ---- Before the rounds
 

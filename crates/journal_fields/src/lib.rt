@@ -151,7 +151,7 @@ fn below(size: u64) -> i64
 }
 
 // The price at a place behind its space.
-pub fn price_at(line: &[u8], at: usize) -> Price
+fn price_at(line: &[u8], at: usize) -> Price
     requires { ⌜ at ≤ length (now line) ⌝ }
     ensures price { λ r. ⌜ r ≡ rules.price (drop at (now (line .entry))) ⌝ }
     ensures fits { λ r. ⌜ at + r .used ≤ length (now (line .entry)) ⌝ }

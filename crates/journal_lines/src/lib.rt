@@ -1,7 +1,7 @@
 // The lines of a journal: what each says, read into a call and its lists.
-pub mod heads;
-pub mod plain;
-pub mod verbs;
+mod heads;
+mod plain;
+mod verbs;
 
 use engine::calls::Call;
 use journal_fields::WIDE_TOP;

@@ -8,7 +8,7 @@ use lib.Dec.{T, ltb, ltb→lt}
 use borrow.Author.Tests.{ltb-true}
 use Rattle.market.proofs.Tests.{left-true, right-true}
 use Rattle.market.specs.Books.{every}
-use Rattle.market.specs.Answers.{Row, _gives_, firstOf, decided, decidedList, refused}
+use Rattle.market.specs.Answers.{Row, _gives_, firstOf, answerNumber, decided, decidedList, refused}
 use Rattle.market.specs.declared.answer.Outcome.{Outcome}
 use Rattle.market.specs.declared.book.Book.{Book}
 
@@ -24,6 +24,11 @@ none-holds false number rows above h = (refl, h)
 pub is-refused : (b : Book) (n : ℕ) (taken : Outcome) → (n ≡ 0 → ⊥) → decided b n taken ≡ refused b n
 is-refused b zero taken h = absurd (h refl)
 is-refused b (suc n) taken h = refl
+
+-- where a call is answered its table gives none
+pub none-refused : (b : Book) (n : ℕ) (taken : Outcome) → answerNumber (decided b n taken .answer) ≡ 0 → n ≡ 0
+none-refused b zero taken none = refl
+none-refused b (suc n) taken none = none
 
 pub is-taken : (b : Book) (n : ℕ) (taken : Outcome) → n ≡ 0 → decided b n taken ≡ taken
 is-taken b zero taken h = refl

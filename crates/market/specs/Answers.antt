@@ -40,6 +40,10 @@ answerValues (Bids bids) = bids ∷ []
 abbrev pub refused : Book → ℕ → Outcome
 refused book number = record { answer = Refused number; book = book }
 
+-- "Whoever wrote a sheet: 40."
+abbrev pub formRefusal : ℕ
+formRefusal = 40
+
 -- a call that answers only that it is done
 abbrev pub answered : Book → Outcome
 answered book = record { answer = Done; book = book }

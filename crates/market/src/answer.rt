@@ -48,6 +48,8 @@ impl Refusal {
     pub const TOTAL: u32 = 32;
 
     pub const COLUMNS: u32 = 33;
+    // Whoever wrote a sheet.
+    pub const FORM: u32 = 40;
 }
 
 // What a call answers: the refusal's number, that it is done, the draw on a letter of credit, or a round's number of bids.

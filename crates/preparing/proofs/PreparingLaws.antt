@@ -9,7 +9,7 @@ use lib.Seq.{length-take-le, take-all, take-at, take-append-seam}
 use borrow.Author.Tests.{not-false}
 use Rattle.market.proofs.Every.{every-append, every-take, every-replicate}
 use Rattle.market.proofs.SoundLaws.{count-within}
-use Rattle.market.proofs.Tables.{none-holds}
+use Rattle.market.proofs.Tables.{none-refused, none-holds}
 use Rattle.market.specs.Answers.{_gives_, firstOf, answerNumber, answered, decided}
 use Rattle.market.specs.Books.{every}
 use Rattle.market.specs.Fresh.{soundRoute, freshRefusals, freshBook, noBook, fresh}
@@ -31,10 +31,6 @@ use Rattle.preparing.proofs.DepositLaws.{then-refused, then-next}
 use Rattle.preparing.proofs.SlotLaws.{quantities-length, quantities-append}
 
 -- ---- A fresh book that is answered has 16 paths at most
-
-pub none-refused : (b : Book) (n : ℕ) (taken : Outcome) → answerNumber (decided b n taken .answer) ≡ 0 → n ≡ 0
-none-refused b zero taken none = refl
-none-refused b (suc n) taken none = none
 
 fresh-few : (routes : List Route) (n : ℕ) → answerNumber (fresh routes n .answer) ≡ 0 → n ≤ pathLimit
 unfolding fresh

@@ -6,7 +6,7 @@ use Prim.Native.Nat.{ℕ, zero, suc, _+_, _≤_, _<_}
 use native.Mathlib.Omega.{arith}
 use lib.Dec.{eqb}
 use lib.ListN.{length, getD, replicate}
-use Rattle.market.proofs.Tables.{is-taken, list-taken}
+use Rattle.market.proofs.Tables.{none-refused, is-taken, list-taken}
 use Rattle.market.specs.Answers.{answerNumber, firstOf, decided}
 use Rattle.market.specs.Limits.{bidLimit, pathLimit, bidderLimit}
 use Rattle.market.specs.declared.answer.Answer.the-variants.{Bids}
@@ -104,10 +104,6 @@ module _ (paths : ℕ) (offered : List ℕ) (bids : List Bid) (marks : List ℕ)
         (all-bids (λ k b. chargeIn answers k ≤ filledValue (wonIn answers k) (b .laminations)) bids noBid (λ k inside. charges-read k noBid inside))
 
 -- ---- An answered round
-
-none-refused : (b : Book) (n : ℕ) (taken : Outcome) → answerNumber (decided b n taken .answer) ≡ 0 → n ≡ 0
-none-refused b zero taken none = refl
-none-refused b (suc n) taken none = none
 
 -- a round, as the engine made it
 abbrev pub roundMade : Book → List ℕ → Lent → Made

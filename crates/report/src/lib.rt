@@ -60,3 +60,10 @@ pub fn answer(outcome: Outcome) {
 pub fn line() {
     text(b"\n");
 }
+
+// The name of a case, on a line of its own.
+pub fn title(name: &[u8]) {
+    text(b"== ");
+    text(name);
+    line();
+}

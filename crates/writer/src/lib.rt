@@ -7,7 +7,8 @@ ghost use lib.ListN.{length};
 ghost use Rattle.market.specs.Books.{every};
 ghost use Rattle.market.specs.Limits.{pathLimit, bidListWords, bidAnswerWords, pathAnswerWords};
 ghost use Rattle.bids.proofs.Walk.{soundList};
-ghost use Rattle.award_sheet.specs.AwardSheet.{biddersText, formRefusal, isBidder, refusedLine, refusedText, titleText};
+ghost use Rattle.market.specs.Answers.{formRefusal};
+ghost use Rattle.award_sheet.specs.AwardSheet.{biddersText, isBidder, refusedLine, refusedText, titleText};
 ghost use Rattle.writer.specs.Written.{written, fronted, answeredText};
 
 // The output buffer, together with the count of bytes filled.

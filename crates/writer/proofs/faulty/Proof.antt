@@ -28,7 +28,8 @@ use denote.Triple.Table.{entered, cited}
 use denote.Triple.Walked.{says, Stays, stay-ref, stay-dropped, walkOf, goes-ref, goes-dropped, Walks, ends-at, walked, walk-meets}
 use denote.Exit.{yes}
 use denote.Signature.{Slot, plain, namedLft}
-use Rattle.award_sheet.specs.AwardSheet.{formRefusal, refusedLine}
+use Rattle.market.specs.Answers.{formRefusal}
+use Rattle.award_sheet.specs.AwardSheet.{refusedLine}
 use Rattle.writer.specs.Written.{fronted}
 use Rattle.writer.specs.declared.Writer.{Writer}
 use Rattle.writer.proofs.Writer as T

@@ -7,7 +7,8 @@ use Rattle.fields.specs.Fields.{space, countLine}
 use Rattle.fields.proofs.FieldLaws.{fieldText}
 use Rattle.writing.proofs.PutLaws.{written-none, written-room, written-fits, written-on, written-all}
 use Rattle.writing.proofs.PieceLaws.{field-piece}
-use Rattle.award_sheet.specs.AwardSheet.{formRefusal, refusedLine}
+use Rattle.market.specs.Answers.{formRefusal}
+use Rattle.award_sheet.specs.AwardSheet.{refusedLine}
 use Rattle.award_sheet.specs.Phrases.{refusedWord, lineWord}
 use Rattle.award_sheet.proofs.refusals.put_faulty.Statement.{statement}
 use Rattle.award_sheet.proofs.refusals.put_faulty.Tie as tie

@@ -1,0 +1,45 @@
+-- Every line fits: how long a line is at most.
+use mathlib.Core.List.{List, [], _∷_, _++_}
+use Prim.Native.Nat.{ℕ, zero, suc, _+_, _*_, _≤_}
+use native.Mathlib.Omega.{arith}
+use lib.ListN.{length, take, drop, length-append, length-take}
+use Rattle.market.specs.Limits.{bidderLimit, bidLimit, bidAnswerSize, pathLimit, pathAnswerSize}
+use Rattle.market.specs.declared.answer.Answer.{Answer}
+use Rattle.market.specs.declared.answer.Answer.the-variants.{Refused, Done, Drawn, Bids}
+use Rattle.fields.specs.Fields.{newline}
+use Rattle.rows.specs.Rows.{row, rows}
+use Rattle.rows.proofs.RowLaws.{row-most, last-row-most, rows-most}
+use Rattle.journal_answers.specs.Answers.{replyRoom, bidsIn, pathRows, roundText, doneText, replyText}
+use Rattle.journal_answers.specs.Words as words
+use Rattle.journal_answers.specs.declared.Told.{Told}
+use Rattle.journal_answers.specs.declared.Told.the-variants.{Nothing, Listed}
+
+-- a path's row has a mark and three numbers
+paths-most : (paths : ℕ) (results : List ℕ) → length (pathRows paths results) ≤ paths * 65
+paths-most zero results = omega arith
+paths-most (suc k) results =
+    let first = row words.slashMark (take pathAnswerSize results) in
+    let others = rows words.barMark pathAnswerSize k (drop pathAnswerSize results) in
+    omega
+    (arith, row-most words.slashMark (take pathAnswerSize results), length-take pathAnswerSize results, rows-most words.barMark pathAnswerSize 65 (omega arith) k (drop pathAnswerSize results), length-append first others)
+
+-- a bid's row has a mark and four
+pub round-most : (bids : ℕ) (answers : List ℕ) (paths : ℕ) (results : List ℕ) → length (roundText bids answers paths results) ≤ 26 + bids * 86 + paths * 65
+round-most bids answers paths results =
+    let counted = row words.okMark (bids ∷ []) in
+    let answered = rows words.barMark bidAnswerSize bids answers in
+    let offered = pathRows paths results in
+    omega
+    (arith, row-most words.okMark (bids ∷ []), rows-most words.barMark bidAnswerSize 86 (omega arith) bids answers, paths-most paths results, length-append counted answered, length-append (counted ++ answered) offered, length-append (counted ++ answered ++ offered) (newline ∷ []))
+
+done-most : (told : Told) (list : List ℕ) → length list ≤ bidderLimit → length (doneText told list) ≤ replyRoom
+done-most Nothing list few = omega (arith, last-row-most words.okMark [])
+done-most Listed list few = omega (arith, last-row-most words.okMark list)
+
+-- the line behind any call fits
+pub reply-fits : (answer : Answer) (told : Told) (list answers : List ℕ) (paths : ℕ) (results : List ℕ) → length list ≤ bidderLimit → bidsIn answer ≤ bidLimit → paths ≤ pathLimit → length (replyText answer told list answers paths results) ≤ replyRoom
+unfolding replyText
+reply-fits (Refused n) told list answers paths results few bids within = omega (arith, last-row-most words.refusedMark (n ∷ []))
+reply-fits Done told list answers paths results few bids within = done-most told list few
+reply-fits (Drawn d) told list answers paths results few bids within = omega (arith, last-row-most words.okMark (d .0 ∷ []))
+reply-fits (Bids n) told list answers paths results few bids within = omega (arith, round-most n answers paths results)

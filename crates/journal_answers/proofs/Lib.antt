@@ -1,0 +1,3 @@
+-- Laws about what a journal prints.
+pub mod AnswerLaws
+pub mod LengthLaws

@@ -1,0 +1,107 @@
+use borrow.Author.Needs.{needs}
+use native.Mathlib.Omega.{arith}
+use Prim.Native.Nat.{_*_, _-_, _≤_, _<_}
+use lib.ListN.{length, take, drop, length-take, length-drop}
+use Rattle.market.specs.Limits.{pathAnswerSize}
+use Rattle.rows.specs.Rows.{row, rows}
+use Rattle.writing.proofs.PutLaws.{written-none, written-fits, written-on, written-room, written-all, written-done}
+use Rattle.journal_answers.specs.Answers.{pathRows}
+use Rattle.journal_answers.specs.Words as words
+use Rattle.journal_answers.proofs.AnswerLaws.{path-rows-some, path-rows-none}
+use Rattle.journal_answers.proofs.put_path_rows.Statement.{statement}
+use Rattle.journal_answers.proofs.put_path_rows.Tie as tie
+
+returns : tie.Need-returns
+returns c =
+    let start = c .before .before .before in
+    let a = start .args in
+    let s = written-none (a .out .now) (a .at) (pathRows (a .paths) (a .results .now)) (start .pre .1) in
+    written-done s (path-rows-none (a .paths) (a .results .now) (c .if1 .taken))
+
+slice-aggregate-put-row : tie.Need-slice-aggregate-put-row
+slice-aggregate-put-row c = search needs
+
+slice-aggregate-put-row-2 : tie.Need-slice-aggregate-put-row-2
+slice-aggregate-put-row-2 c =
+    let start = c .before .before .before .before .before .before in
+    let l = start .args .results .now in
+    let few : pathAnswerSize ≤ length l = omega (arith, start .pre .0, c .before .before .before .if1 .left) in
+    omega (arith, few, length-take pathAnswerSize l)
+
+put-row-requires : tie.Need-put-row-requires
+put-row-requires c κs =
+    let start = c .before .before .before .before .before .before in
+    let a = start .args in
+    let l = a .results .now in
+    let some : 0 < a .paths = omega (arith, c .before .before .before .if1 .left) in
+    let first = row words.slashMark (take pathAnswerSize l) in
+    let others = rows words.barMark pathAnswerSize (a .paths - 1) (take (length l - pathAnswerSize) (drop pathAnswerSize l)) in
+    let e = path-rows-some (a .paths) l some in
+    let s = written-none (a .out .now) (a .at) (pathRows (a .paths) l) (start .pre .1) in
+    written-fits s first others e
+
+slice-aggregate-put-rows : tie.Need-slice-aggregate-put-rows
+slice-aggregate-put-rows c = search needs
+
+sub-put-rows : tie.Need-sub-put-rows
+sub-put-rows c = search needs
+
+part-put-rows-start : tie.Need-part-put-rows-start
+part-put-rows-start c = search needs
+
+part-put-rows-end : tie.Need-part-put-rows-end
+part-put-rows-end c = search needs
+
+sub-put-rows-2 : tie.Need-sub-put-rows-2
+sub-put-rows-2 c = search needs
+
+put-rows-requires : tie.Need-put-rows-requires
+put-rows-requires c κs =
+    let start = c .before .before .before .before .before .before .before .before .before .before .before .before in
+    let a = start .args in
+    let l = a .results .now in
+    let some : 0 < a .paths = omega (arith, c .before .before .before .before .before .before .before .before .before .if1 .left) in
+    let first = row words.slashMark (take pathAnswerSize l) in
+    let others = rows words.barMark pathAnswerSize (a .paths - 1) (take (length l - pathAnswerSize) (drop pathAnswerSize l)) in
+    let e = path-rows-some (a .paths) l some in
+    let s = written-none (a .out .now) (a .at) (pathRows (a .paths) l) (start .pre .1) in
+    let put = c .before .before .before .before .before .put-row in
+    let t = written-on s first others e (put .ensures .0) (put .ensures .1) in
+    let few : (a .paths - 1) * pathAnswerSize ≤ length (take (length l - pathAnswerSize) (drop pathAnswerSize l)) =
+    simp (length-take, length-drop) (omega (arith, start .pre .0, some)) in
+    (few, written-room t)
+
+same-length : tie.Need-same-length
+same-length c = search needs
+
+returns-2 : tie.Need-returns-2
+returns-2 c =
+    let start = c .before .before .before .before .before .before .before .before .before .before .before .before .before .before .before in
+    let a = start .args in
+    let l = a .results .now in
+    let some : 0 < a .paths = omega (arith, c .before .before .before .before .before .before .before .before .before .before .before .before .if1 .left) in
+    let first = row words.slashMark (take pathAnswerSize l) in
+    let others = rows words.barMark pathAnswerSize (a .paths - 1) (take (length l - pathAnswerSize) (drop pathAnswerSize l)) in
+    let e = path-rows-some (a .paths) l some in
+    let s = written-none (a .out .now) (a .at) (pathRows (a .paths) l) (start .pre .1) in
+    let put = c .before .before .before .before .before .before .before .before .put-row in
+    let next = c .before .before .put-rows in
+    let t = written-on s first others e (put .ensures .0) (put .ensures .1) in
+    written-all t (next .ensures .0) (next .ensures .1)
+
+pub put-path-rows-spec : {M : Type 1} → statement M
+put-path-rows-spec =
+    tie.close
+    (tie.spec
+    returns
+    slice-aggregate-put-row
+    slice-aggregate-put-row-2
+    put-row-requires
+    slice-aggregate-put-rows
+    sub-put-rows
+    part-put-rows-start
+    part-put-rows-end
+    sub-put-rows-2
+    put-rows-requires
+    same-length
+    returns-2)

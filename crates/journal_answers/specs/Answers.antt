@@ -1,0 +1,45 @@
+-- docs/JOURNAL.md, "What is printed": the line behind each call.
+use mathlib.Core.List.{List, [], _∷_, _++_}
+use Prim.Native.Nat.{ℕ, zero, suc}
+use lib.ListN.{drop, take}
+use Rattle.market.specs.Limits.{bidAnswerSize, pathAnswerSize}
+use Rattle.market.specs.declared.answer.Answer.{Answer}
+use Rattle.market.specs.declared.answer.Answer.the-variants.{Refused, Done, Drawn, Bids}
+use Rattle.fields.specs.Fields.{newline}
+use Rattle.rows.specs.Rows.{row, lastRow, rows}
+use Rattle.journal_answers.specs.Words as words
+use Rattle.journal_answers.specs.declared.Told.{Told}
+use Rattle.journal_answers.specs.declared.Told.the-variants.{Nothing, Listed}
+
+-- room for any line behind a call
+abbrev pub replyRoom : ℕ
+replyRoom = 65536
+
+-- the bids that an answer tells of
+abbrev pub bidsIn : Answer → ℕ
+bidsIn (Refused n) = 0
+bidsIn Done = 0
+bidsIn (Drawn d) = 0
+bidsIn (Bids n) = n
+
+-- "after the slash per path offered, sold in this round, price or 0"
+abbrev pub pathRows : ℕ → List ℕ → List ℕ
+pathRows zero results = []
+pathRows (suc k) results = row words.slashMark (take pathAnswerSize results) ++ rows words.barMark pathAnswerSize k (drop pathAnswerSize results)
+
+-- "= ok N | M V W C | ... / O S P | ..."
+abbrev pub roundText : ℕ → List ℕ → ℕ → List ℕ → List ℕ
+roundText bids answers paths results =
+    row words.okMark (bids ∷ []) ++ rows words.barMark bidAnswerSize bids answers ++ pathRows paths results ++ (newline ∷ [])
+
+-- "= ok", and behind it what the call tells of its list: the offers of an open auction, or 32 amounts
+abbrev pub doneText : Told → List ℕ → List ℕ
+doneText Nothing list = lastRow words.okMark []
+doneText Listed list = lastRow words.okMark list
+
+-- the line behind a call. `list` is what the call tells where it tells a list, `answers` and `results` are a round's
+unfoldable pub replyText : Answer → Told → List ℕ → List ℕ → ℕ → List ℕ → List ℕ
+replyText (Refused n) told list answers paths results = lastRow words.refusedMark (n ∷ [])
+replyText Done told list answers paths results = doneText told list
+replyText (Drawn d) told list answers paths results = lastRow words.okMark (d .0 ∷ [])
+replyText (Bids n) told list answers paths results = roundText n answers paths results

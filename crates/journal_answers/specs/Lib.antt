@@ -1,0 +1,3 @@
+-- What a journal prints behind each call.
+pub mod Words
+pub mod Answers

@@ -1,0 +1,111 @@
+use borrow.Author.Needs.{needs}
+use native.Mathlib.Omega.{arith}
+use mathlib.Core.Path.{_≡_, refl, sym, _∙_, ap}
+use mathlib.Core.List.{[], _∷_, _++_, append-nil}
+use Prim.Native.Nat.{ℕ}
+use lib.IntN.{natAbs}
+use mir.Facts.{toZ-ofZ}
+use mir.Syntax.{w64}
+use Rattle.text.specs.Decimal.{decimal}
+use Rattle.rows.specs.Rows.{row}
+use Rattle.writing.proofs.PutLaws.{written-none, written-fits, written-on, written-room, written-all, written-done}
+use Rattle.journal_states.specs.States.{accountText}
+use Rattle.journal_states.specs.Words as words
+use Rattle.journal_states.proofs.StateLaws.{account-debt, account-plain, account-fits}
+use Rattle.journal_states.proofs.put_account.Statement.{statement}
+use Rattle.journal_states.proofs.put_account.Tie as tie
+
+size-of-requires : tie.Need-size-of-requires
+size-of-requires c κs = search needs
+
+below-zero-requires : tie.Need-below-zero-requires
+below-zero-requires c κs = search needs
+
+slice-aggregate-put-bytes : tie.Need-slice-aggregate-put-bytes
+slice-aggregate-put-bytes c = search needs
+
+put-bytes-requires : tie.Need-put-bytes-requires
+put-bytes-requires c κs = search needs
+
+put-number-requires : tie.Need-put-number-requires
+put-number-requires c κs =
+    let start = c .before .before .before .before .before .before .before .before .before .before .before in
+    let a = start .args in
+    let z = a .account .0 in
+    let size = c .before .before .before .before .before .before .before .before .size-of .result in
+    let same : size ≡ natAbs z = c .before .before .before .before .before .before .before .before .size-of .ensures ∙ ap natAbs (toZ-ofZ {w = w64} {z = z} (record { sfits = c .before .before .before .before .before .before .before .before .before .struct-told .given .0 .1 })) in
+    let s = written-none (a .out .now) 0 (accountText z) (omega (arith, account-fits z, start .pre)) in
+    let e = account-debt z (sym (c .before .before .before .before .before .before .before .below-zero .ensures) ∙ c .before .before .before .before .before .before .if1 .taken) ∙ ap (λ (n : ℕ). words.debtMark ++ decimal n) (sym same) in
+    let put = c .before .before .before .put-bytes in
+    let t = written-on s words.debtMark (decimal size) e (put .ensures .0) (put .ensures .1) in
+    written-room t
+
+same-length : tie.Need-same-length
+same-length c = search needs
+
+returns : tie.Need-returns
+returns c =
+    let start = c .before .before .before .before .before .before .before .before .before .before .before .before .before .before in
+    let a = start .args in
+    let z = a .account .0 in
+    let size = c .before .before .before .before .before .before .before .before .before .before .before .size-of .result in
+    let same : size ≡ natAbs z = c .before .before .before .before .before .before .before .before .before .before .before .size-of .ensures ∙ ap natAbs (toZ-ofZ {w = w64} {z = z} (record { sfits = c .before .before .before .before .before .before .before .before .before .before .before .before .struct-told .given .0 .1 })) in
+    let s = written-none (a .out .now) 0 (accountText z) (omega (arith, account-fits z, start .pre)) in
+    let e = account-debt z (sym (c .before .before .before .before .before .before .before .before .before .before .below-zero .ensures) ∙ c .before .before .before .before .before .before .before .before .before .if1 .taken) ∙ ap (λ (n : ℕ). words.debtMark ++ decimal n) (sym same) in
+    let put = c .before .before .before .before .before .before .put-bytes in
+    let t = written-on s words.debtMark (decimal size) e (put .ensures .0) (put .ensures .1) in
+    let next = c .before .before .put-number in
+    let all = written-all t (next .ensures .0) (next .ensures .1) in
+    (omega (arith, all .0), all .1)
+
+slice-aggregate-put-row : tie.Need-slice-aggregate-put-row
+slice-aggregate-put-row c = search needs
+
+slice-aggregate-put-row-2 : tie.Need-slice-aggregate-put-row-2
+slice-aggregate-put-row-2 c = search needs
+
+put-row-requires : tie.Need-put-row-requires
+put-row-requires c κs =
+    let start = c .before .before .before .before .before .before .before .before in
+    let a = start .args in
+    let z = a .account .0 in
+    let size = c .before .before .before .before .before .size-of .result in
+    let same : size ≡ natAbs z = c .before .before .before .before .before .size-of .ensures ∙ ap natAbs (toZ-ofZ {w = w64} {z = z} (record { sfits = c .before .before .before .before .before .before .struct-told .given .0 .1 })) in
+    let s = written-none (a .out .now) 0 (accountText z) (omega (arith, account-fits z, start .pre)) in
+    let piece = row words.bookMark (size ∷ []) in
+    let e = account-plain z (sym (c .before .before .before .before .below-zero .ensures) ∙ c .before .before .before .if1 .left) ∙ ap (λ (n : ℕ). row words.bookMark (n ∷ [])) (sym same) ∙ sym (append-nil piece) in
+    written-fits s piece [] e
+
+same-length-2 : tie.Need-same-length-2
+same-length-2 c = search needs
+
+returns-2 : tie.Need-returns-2
+returns-2 c =
+    let start = c .before .before .before .before .before .before .before .before .before .before .before in
+    let a = start .args in
+    let z = a .account .0 in
+    let size = c .before .before .before .before .before .before .before .before .size-of .result in
+    let same : size ≡ natAbs z = c .before .before .before .before .before .before .before .before .size-of .ensures ∙ ap natAbs (toZ-ofZ {w = w64} {z = z} (record { sfits = c .before .before .before .before .before .before .before .before .before .struct-told .given .0 .1 })) in
+    let s = written-none (a .out .now) 0 (accountText z) (omega (arith, account-fits z, start .pre)) in
+    let piece = row words.bookMark (size ∷ []) in
+    let e = account-plain z (sym (c .before .before .before .before .before .before .before .below-zero .ensures) ∙ c .before .before .before .before .before .before .if1 .left) ∙ ap (λ (n : ℕ). row words.bookMark (n ∷ [])) (sym same) ∙ sym (append-nil piece) in
+    let put = c .before .before .put-row in
+    let all = written-done (written-on s piece [] e (put .ensures .0) (put .ensures .1)) refl in
+    (omega (arith, all .0), all .1)
+
+pub put-account-spec : {M : Type 1} → statement M
+put-account-spec =
+    tie.close
+    (tie.spec
+    size-of-requires
+    below-zero-requires
+    slice-aggregate-put-bytes
+    put-bytes-requires
+    put-number-requires
+    same-length
+    returns
+    slice-aggregate-put-row
+    slice-aggregate-put-row-2
+    put-row-requires
+    same-length-2
+    returns-2)

@@ -1,0 +1,185 @@
+// What a journal prints of the state: its lines, each at the front of the buffer.
+use market::book::Bidder;
+use market::book::Direction;
+use market::book::Entry;
+use market::book::Kind;
+use market::book::Path;
+use market::book::Period;
+use market::book::Stage;
+use market::engine::Engine;
+use market::units::Balance;
+ghost use mathlib.Core.Path.{_≡_};
+ghost use Prim.Native.Nat.{_+_, _≤_};
+ghost use lib.IntN.{natAbs};
+ghost use lib.ListN.{length};
+ghost use Rattle.text.specs.Put.{putAt};
+ghost use Rattle.journal_states.specs.States.{lineRoom, engineText, accountText, openText, stageText, bookText, offerText, pathText, blank, bidderPart, entryText};
+
+// The engine's own release and rule edition.
+pub fn put_engine(out: &mut [u8]) -> usize
+    requires { ⌜ lineRoom ≤ length (now out) ⌝ }
+    ensures place { λ r. ⌜ r ≡ length engineText ⌝ }
+    ensures bytes { λ _. ⌜ now (out .exit) ≡ putAt (now (out .entry)) 0 engineText ⌝ }
+{
+    let release = [Engine::RELEASE as u64];
+    let rules = [Engine::RULES as u64];
+    let next = rows::put_row(out, 0, b"# engine release", &release);
+    rows::put_last_row(out, next, b" rules", &rules)
+}
+
+// The size of a balance, whatever its sign.
+fn size_of(cents: i64) -> u64
+    ensures { λ r. ⌜ r ≡ natAbs cents ⌝ }
+{
+    if cents < 0 {
+        return (0 - (cents + 1)) as u64 + 1;
+    }
+    cents as u64
+}
+
+// The account, with a minus sign before a balance below 0.
+fn put_account(out: &mut [u8], account: Balance) -> usize
+    requires { ⌜ lineRoom ≤ length (now out) ⌝ }
+    ensures place { λ r. ⌜ r ≡ length (accountText (account .0)) ⌝ }
+    ensures bytes { λ _. ⌜ now (out .exit) ≡ putAt (now (out .entry)) 0 (accountText (account .0)) ⌝ }
+{
+    let size = size_of(account.0);
+    if balance::below_zero(account) {
+        let next = text::put_bytes(out, 0, b"# book account -");
+        return text::put_number(out, next, size);
+    }
+    let row = [size];
+    rows::put_row(out, 0, b"# book account", &row)
+}
+
+// An open auction: its kind, the next round, the period.
+fn put_open(out: &mut [u8], at: usize, kind: Kind, round: u32, period: Period) -> usize
+    requires { ⌜ at + length (openText kind round period) ≤ length (now out) ⌝ }
+    ensures place { λ r. ⌜ r ≡ at + length (openText kind round period) ⌝ }
+    ensures bytes { λ _. ⌜ now (out .exit) ≡ putAt (now (out .entry)) at (openText kind round period) ⌝ }
+{
+    let first = period.first;
+    let last = period.last;
+    let row = [round as u64, first.0 as u64, last.0 as u64];
+    match kind {
+        Kind::Short => rows::put_row(out, at, b" open S", &row),
+        Kind::Long => rows::put_row(out, at, b" open L", &row),
+    }
+}
+
+// The stage.
+fn put_stage(out: &mut [u8], at: usize, stage: Stage) -> usize
+    requires { ⌜ at + length (stageText stage) ≤ length (now out) ⌝ }
+    ensures place { λ r. ⌜ r ≡ at + length (stageText stage) ⌝ }
+    ensures bytes { λ _. ⌜ now (out .exit) ≡ putAt (now (out .entry)) at (stageText stage) ⌝ }
+{
+    match stage {
+        Stage::Idle => text::put_bytes(out, at, b" idle"),
+        Stage::Open {
+            kind,
+            round,
+            period,
+        } => put_open(out, at, kind, round, period),
+    }
+}
+
+// The book: its account, the register's count, the stage.
+pub fn put_book(out: &mut [u8], account: Balance, entries: usize, stage: Stage) -> usize
+    requires { ⌜ lineRoom ≤ length (now out) ⌝ }
+    ensures place { λ r. ⌜ r ≡ length (bookText (account .0) entries stage) ⌝ }
+    ensures bytes { λ _. ⌜ now (out .exit) ≡ putAt (now (out .entry)) 0 (bookText (account .0) entries stage) ⌝ }
+{
+    let owned = put_account(out, account);
+    let row = [entries as u64];
+    let counted = rows::put_row(out, owned, b" count", &row);
+    let end = put_stage(out, counted, stage);
+    text::put_bytes(out, end, b"\n")
+}
+
+// A path's direction, zone, offer and what is sold.
+fn put_offer(out: &mut [u8], at: usize, path: Path) -> usize
+    requires { ⌜ at + length (offerText path) ≤ length (now out) ⌝ }
+    ensures place { λ r. ⌜ r ≡ at + length (offerText path) ⌝ }
+    ensures bytes { λ _. ⌜ now (out .exit) ≡ putAt (now (out .entry)) at (offerText path) ⌝ }
+{
+    let direction = path.direction;
+    let offer = path.offer;
+    let sold = path.sold;
+    let row = [path.zone as u64, offer.0 as u64, sold.0 as u64];
+    match direction {
+        Direction::Export => rows::put_last_row(out, at, b" X", &row),
+        Direction::Import => rows::put_last_row(out, at, b" M", &row),
+    }
+}
+
+// The path of a number.
+pub fn put_path(out: &mut [u8], i: usize, path: Path) -> usize
+    requires { ⌜ lineRoom ≤ length (now out) ⌝ }
+    ensures place { λ r. ⌜ r ≡ length (pathText i path) ⌝ }
+    ensures bytes { λ _. ⌜ now (out .exit) ≡ putAt (now (out .entry)) 0 (pathText i path) ⌝ }
+{
+    let row = [i as u64];
+    let next = rows::put_row(out, 0, b"# path", &row);
+    put_offer(out, next, path)
+}
+
+// Whether all of a bidder's account is 0.
+fn is_blank(bidder: Bidder) -> bool
+    ensures { λ r. ⌜ r ≡ blank bidder ⌝ }
+{
+    let cash = bidder.cash;
+    let applied = bidder.applied;
+    let letter = bidder.letter;
+    let hold = bidder.hold;
+    let owed = bidder.owed;
+    let money = (cash.0 == 0) & (applied.0 == 0) & (letter.0 == 0) & (hold.0 == 0) & (owed.0 == 0);
+    money & (bidder.step == 0)
+}
+
+// The bidder of a number, and nothing where all is 0.
+pub fn put_bidder(out: &mut [u8], i: usize, bidder: Bidder) -> usize
+    requires { ⌜ lineRoom ≤ length (now out) ⌝ }
+    ensures place { λ r. ⌜ r ≡ length (bidderPart i bidder) ⌝ }
+    ensures bytes { λ _. ⌜ now (out .exit) ≡ putAt (now (out .entry)) 0 (bidderPart i bidder) ⌝ }
+{
+    if is_blank(bidder) {
+        return 0;
+    }
+    let cash = bidder.cash;
+    let applied = bidder.applied;
+    let letter = bidder.letter;
+    let hold = bidder.hold;
+    let owed = bidder.owed;
+    let row = [
+        i as u64,
+        cash.0,
+        applied.0,
+        letter.0,
+        hold.0,
+        owed.0,
+        bidder.step as u64,
+    ];
+    rows::put_last_row(out, 0, b"# bidder", &row)
+}
+
+// The register's entry of a number.
+pub fn put_entry(out: &mut [u8], i: usize, entry: Entry) -> usize
+    requires { ⌜ lineRoom ≤ length (now out) ⌝ }
+    ensures place { λ r. ⌜ r ≡ length (entryText i entry) ⌝ }
+    ensures bytes { λ _. ⌜ now (out .exit) ≡ putAt (now (out .entry)) 0 (entryText i entry) ⌝ }
+{
+    let quantity = entry.quantity;
+    let period = entry.period;
+    let first = period.first;
+    let last = period.last;
+    let row = [
+        i as u64,
+        entry.bidder as u64,
+        entry.path as u64,
+        quantity.0 as u64,
+        first.0 as u64,
+        last.0 as u64,
+        entry.state as u64,
+    ];
+    rows::put_last_row(out, 0, b"# entry", &row)
+}

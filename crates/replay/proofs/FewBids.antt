@@ -1,0 +1,69 @@
+-- No answer tells of more bids than there is room for.
+use mathlib.Core.Path.{_≡_, refl}
+use mathlib.Core.List.{List}
+use Prim.Native.Nat.{ℕ, zero, suc, _≤_}
+use native.Mathlib.Omega.{arith}
+use lib.ListN.{length}
+use Rattle.market.specs.Answers.{firstOf, decided, answered, drawn}
+use Rattle.market.specs.Books.{bidderOf, withBidder, withAccount, withEntries}
+use Rattle.market.specs.Limits.{pathLimit, bidLimit}
+use Rattle.market.specs.declared.answer.Answer.the-variants.{Bids}
+use Rattle.market.specs.declared.answer.Outcome.{Outcome}
+use Rattle.market.specs.declared.book.Book.{Book}
+use Rattle.funding.specs.Deposit.{depositRefusals, credited, deposit}
+use Rattle.funding.specs.Withdraw.{withdrawRefusals, debited, withdraw}
+use Rattle.rent.specs.Rent.{rentRefusals, accountAfter, rent}
+use Rattle.billing.specs.Pay.{payTable, bookPaid, pay}
+use Rattle.billing.specs.Default.{defaultTable, drawOf, bookDefaulted, default}
+use Rattle.retire.specs.Retire.{retireTable, entriesLeft, retire}
+use Rattle.payout.specs.Payout.{payoutTable, accountPaying, payout}
+use Rattle.disbursement.specs.Disbursement as pools
+use Rattle.disbursement.specs.declared.flow.Flow.the-variants.{Out, In}
+use Rattle.register.specs.Refusals.{countedEntries}
+use Rattle.opening.specs.Open.{openTable, opened, «open»}
+use Rattle.bids.proofs.Walk.{bids-few}
+use Rattle.bids.specs.Bids.{bidsOf}
+use Rattle.round.proofs.Cleared.{round-cleared}
+use Rattle.round.proofs.ReadyLaws.{listed}
+use Rattle.round.specs.Round.{roundTable, bookAfter, round}
+use Rattle.engine.specs.Lent.{Lent, columnsOf}
+use Rattle.engine.specs.Step.{step}
+use Rattle.engine.specs.declared.calls.Call.{Call}
+use Rattle.engine.specs.declared.calls.Call.the-variants.{Deposit, Withdraw, Open, Round, Pay, Default, Retire, Rent, Payout, Disburse, Recover}
+use Rattle.journal_answers.specs.Answers.{bidsIn}
+
+few : (b : Book) (n : ℕ) (taken : Outcome) → (n ≡ 0 → bidsIn (taken .answer) ≤ bidLimit) → bidsIn (decided b n taken .answer) ≤ bidLimit
+few b zero taken h = h refl
+few b (suc n) taken h = omega arith
+
+-- a call that answers nothing but that it is done, or a draw, tells of none
+none : (b : Book) (n : ℕ) (after : Book) → bidsIn (decided b n (answered after) .answer) ≤ bidLimit
+none b n after = few b n (answered after) (λ e. omega arith)
+
+pub answers-few : (b : Book) (words : List ℕ) (call : Call) (l : Lent) → bidsIn (step b words call l .outcome .answer) ≤ bidLimit
+unfolding deposit withdraw «open» round pay default retire rent payout pools.outcome
+answers-few b words (Deposit i to amount) l =
+    none b (firstOf (depositRefusals b i to amount)) (withBidder b i (credited (bidderOf b i) to amount))
+answers-few b words (Withdraw i from amount) l =
+    none b (firstOf (withdrawRefusals b i from amount)) (withBidder b i (debited (bidderOf b i) from amount))
+answers-few b words (Open kind period) l =
+    none b (firstOf (openTable b words period (l .quantities))) (opened b words kind period (l .quantities))
+answers-few b words Round l =
+    few b (firstOf (roundTable b words (l .bids) (l .answers) (l .results) (l .scratch)))
+    (record { answer = Bids (length (bidsOf (l .bids))); book = bookAfter b (bidsOf (l .bids)) })
+    (λ e.
+    let early = round-cleared b words (l .bids) (l .answers) (l .results) (l .scratch) e .0 in
+    bids-few pathLimit (l .bids) (listed b words (l .bids) (l .answers) (l .results) (l .scratch) early) (early .short))
+answers-few b words (Pay i amount) l = none b (firstOf (payTable b words i amount)) (bookPaid b i)
+answers-few b words (Default i) l =
+    few b (firstOf (defaultTable b words i)) (drawn (drawOf (bidderOf b i)) (bookDefaulted b words i)) (λ e. omega arith)
+answers-few b words (Retire day) l =
+    none b (firstOf (retireTable b words day)) (withEntries b (length (entriesLeft b words day)))
+answers-few b words (Rent amount) l = none b (firstOf (rentRefusals b amount)) (withAccount b (accountAfter b amount))
+answers-few b words (Payout day failed) l =
+    none b (firstOf (payoutTable b words day failed (l .prices) (l .amounts)))
+    (withAccount b (accountPaying b day failed (l .prices) (countedEntries b words)))
+answers-few b words (Disburse total) l =
+    none b (firstOf (pools.refusals Out b total (columnsOf l))) (withAccount b (pools.accountAfter Out b total))
+answers-few b words (Recover total) l =
+    none b (firstOf (pools.refusals In b total (columnsOf l))) (withAccount b (pools.accountAfter In b total))

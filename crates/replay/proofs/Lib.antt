@@ -1,0 +1,6 @@
+-- Laws about a line of a journal, run.
+pub mod FewBids
+pub mod ColumnLaws
+pub mod OfferLaws
+pub mod LineLaws
+pub mod SaidLaws

@@ -1,0 +1,102 @@
+use borrow.Author.Needs.{needs}
+use native.Mathlib.Omega.{arith}
+use Rattle.journal_fresh.specs.FreshLines.{freshSaid}
+use mathlib.Core.Path.{_≡_, sym, _∙_, ap}
+use mathlib.Core.List.{[]}
+use Prim.Native.Nat.{ℕ, _*_}
+use lib.ListN.{length}
+use borrow.Author.Tests.{not-true, not-false}
+use Rattle.market.specs.Answers.{answerNumber}
+use Rattle.market.specs.Fresh.{fresh}
+use Rattle.market.specs.declared.answer.Outcome.{Outcome}
+use Rattle.text.specs.Put.{putAt}
+use Rattle.journal_answers.specs.Answers.{bidsIn}
+use Rattle.journal_fresh.specs.declared.FreshLine.{FreshLine}
+use Rattle.replay.specs.Replay.{Stepped, freshState, freshBy, freshStep, turnedAway}
+use Rattle.replay.proofs.LineLaws.{fresh-none, fresh-away, fresh-made, fresh-kept, fresh-taken}
+use borrow.Author.Needs.{needs}
+use Rattle.replay.proofs.answer_fresh.Statement.{statement}
+use Rattle.replay.proofs.answer_fresh.Tie as tie
+
+fresh-said-requires : tie.Need-fresh-said-requires
+fresh-said-requires c κs = search needs
+
+turn-away-requires : tie.Need-turn-away-requires
+turn-away-requires c κs = search needs
+
+same-length : tie.Need-same-length
+same-length c = search needs
+
+returns : tie.Need-returns
+returns c =
+    let a = c .before .before .before .before .before .before .before .before .before .args in
+    let said = c .before .before .before .before .before .before .fresh-said in
+    let away = c .before .before .turn-away in
+    let s : turnedAway (a .journal) [] ≡ freshStep (a .journal) [] (freshSaid (a .text .now)) = sym (fresh-away (a .journal) [] (said .result) (not-true (said .result .stands) (c .before .before .before .before .if1 .taken))) ∙ ap (freshStep (a .journal) []) (said .ensures) in (
+      away .ensures .0 ∙ ap (λ (x : Stepped). x .journal) s,
+      (away .ensures .1 .0 ∙ ap (λ (x : Stepped). length (x .text)) s, away .ensures .1 .1 ∙ ap (λ (x : Stepped). putAt (a .out .now) 0 (x .text)) s),
+    )
+
+fresh-requires : tie.Need-fresh-requires
+fresh-requires c κs = search needs
+
+array-share-prefix-none : tie.Need-array-share-prefix-none
+array-share-prefix-none c = search needs
+
+slice-aggregate-empty : tie.Need-slice-aggregate-empty
+slice-aggregate-empty c = search needs
+
+put-reply-requires : tie.Need-put-reply-requires
+put-reply-requires c κs =
+    let said = c .before .before .before .before .before .before .fresh-said in
+    let none : bidsIn (c .before .before .fresh .result .answer) ≡ 0 = ap (λ (o : Outcome). bidsIn (o .answer)) (c .before .before .fresh .ensures) ∙ fresh-none (said .result .routes) (said .result .count) in
+    (search needs, (search needs, ((omega arith, omega arith), (search needs, search needs))))
+
+number-requires : tie.Need-number-requires
+number-requires c κs = search needs
+
+same-length-2 : tie.Need-same-length-2
+same-length-2 c = search needs
+
+returns-2 : tie.Need-returns-2
+returns-2 c =
+    let a = c .before .before .before .before .before .before .before .before .before .before .before .before .before .before .args in
+    let said = c .before .before .before .before .before .before .before .before .before .before .before .fresh-said in
+    let made = c .before .before .before .before .before .before .before .fresh in
+    let put = c .before .before .before .before .put-reply in
+    let s : freshBy (a .journal) [] (made .result) ≡ freshStep (a .journal) [] (freshSaid (a .text .now)) = ap (freshBy (a .journal) []) (made .ensures) ∙ sym (fresh-made (a .journal) [] (said .result) (not-false (said .result .stands) (c .before .before .before .before .before .before .before .before .before .if1 .left))) ∙ ap (freshStep (a .journal) []) (said .ensures) in (
+      sym (fresh-kept (a .journal) (answerNumber (made .result .answer)) (made .result .book) (λ z. c .if2 .taken (c .before .number .ensures ∙ z))) ∙ ap (λ (x : Stepped). x .journal) s,
+      (put .ensures .0 ∙ ap (λ (x : Stepped). length (x .text)) s, put .ensures .1 ∙ ap (λ (x : Stepped). putAt (a .out .now) 0 (x .text)) s),
+    )
+
+same-length-3 : tie.Need-same-length-3
+same-length-3 c = search needs
+
+returns-3 : tie.Need-returns-3
+returns-3 c =
+    let a = c .before .before .before .before .before .before .before .before .before .before .before .before .before .before .before .args in
+    let said = c .before .before .before .before .before .before .before .before .before .before .before .before .fresh-said in
+    let made = c .before .before .before .before .before .before .before .before .fresh in
+    let put = c .before .before .before .before .before .put-reply in
+    let s : freshBy (a .journal) [] (made .result) ≡ freshStep (a .journal) [] (freshSaid (a .text .now)) = ap (freshBy (a .journal) []) (made .ensures) ∙ sym (fresh-made (a .journal) [] (said .result) (not-false (said .result .stands) (c .before .before .before .before .before .before .before .before .before .before .if1 .left))) ∙ ap (freshStep (a .journal) []) (said .ensures) in (
+      sym (fresh-taken (a .journal) (answerNumber (made .result .answer)) (made .result .book) (omega (arith, c .before .before .number .ensures))) ∙ ap (λ (x : Stepped). x .journal) s,
+      (put .ensures .0 ∙ ap (λ (x : Stepped). length (x .text)) s, put .ensures .1 ∙ ap (λ (x : Stepped). putAt (a .out .now) 0 (x .text)) s),
+    )
+
+pub answer-fresh-spec : {M : Type 1} → statement M
+answer-fresh-spec =
+    tie.close
+    (tie.spec
+    fresh-said-requires
+    turn-away-requires
+    same-length
+    returns
+    fresh-requires
+    array-share-prefix-none
+    slice-aggregate-empty
+    put-reply-requires
+    number-requires
+    same-length-2
+    returns-2
+    same-length-3
+    returns-3)

@@ -1,0 +1,100 @@
+use borrow.Author.Needs.{needs}
+use native.Mathlib.Omega.{arith}
+use mathlib.Core.Bool.{Bool, cond}
+use Rattle.market.specs.Limits.{zones}
+use Rattle.journal_fields.specs.JournalFields.{laid}
+use Rattle.journal_lines.specs.Journal.{lineWords, linePrices}
+use Rattle.replay.specs.Replay.{wordRoom}
+use mathlib.Core.Path.{_≡_, sym, _∙_, ap}
+use mathlib.Core.List.{List, []}
+use Prim.Native.Nat.{ℕ}
+use lib.ListN.{length}
+use Rattle.text.specs.Put.{putAt}
+use Rattle.fields.proofs.ReadLaws.{starts-fit}
+use Rattle.journal_fresh.specs.FreshLines.{freshSaid}
+use Rattle.journal_lines.specs.Verbs.{freshWord}
+use Rattle.replay.specs.Replay.{Stepped, freshStep}
+use Rattle.replay.proofs.LineLaws.{fresh-journal, fresh-text, fresh-register, line-fresh, line-said}
+use borrow.Author.Needs.{needs}
+use Rattle.replay.proofs.answer_line.Statement.{statement}
+use Rattle.replay.proofs.answer_line.Tie as tie
+
+slice-aggregate-starts-with : tie.Need-slice-aggregate-starts-with
+slice-aggregate-starts-with c = search needs
+
+starts-with-requires : tie.Need-starts-with-requires
+starts-with-requires c κs = search needs
+
+-- a list with a line's own numbers at its front, where it is not that of a fresh book
+abbrev own : {X : Type 0} → List X → List X → Bool → List X
+own xs list t = laid (cond t [] xs) list
+
+behind-requires : tie.Need-behind-requires
+behind-requires c κs =
+    let a = c .before .before .before .before .before .before .before .args in
+    let word = c .before .starts-with in
+    starts-fit freshWord (a .line .now) (sym (word .ensures) ∙ c .if1 .taken)
+
+answer-fresh-requires : tie.Need-answer-fresh-requires
+answer-fresh-requires c κs = search needs
+
+same-length : tie.Need-same-length
+same-length c = search needs
+
+returns : tie.Need-returns
+returns c =
+    let a = c .before .before .before .before .before .before .before .before .before .before .before .before .args in
+    let word = c .before .before .before .before .before .before .starts-with in
+    let rest = c .before .before .before .before .behind in
+    let made = c .before .before .answer-fresh in
+    let out = a .out .now in
+    let f = freshSaid (rest .result .now) in
+    let s = ap (λ (l : List ℕ). freshStep (a .journal) (a .register .now) (freshSaid l)) (rest .ensures) ∙ line-fresh (a .journal) (a .register .now) (a .line .now) (sym (word .ensures) ∙ c .before .before .before .before .before .if1 .taken) in
+    let is = sym (sym (word .ensures) ∙ c .before .before .before .before .before .if1 .taken) in
+    let text = fresh-text (a .journal) (a .register .now) f in (
+      made .ensures .0 ∙ fresh-journal (a .journal) (a .register .now) f ∙ ap (λ (x : Stepped). x .journal) s,
+      (made .ensures .1 .0 ∙ ap length text ∙ ap (λ (x : Stepped). length (x .text)) s, (made .ensures .1 .1 ∙ ap (putAt out 0) text ∙ ap (λ (x : Stepped). putAt out 0 (x .text)) s, (fresh-register (a .journal) (a .register .now) f ∙ ap (λ (x : Stepped). x .register) s, (ap (own (lineWords wordRoom (a .line .now)) (a .words .now)) is, ap (own (linePrices zones (a .line .now)) (a .prices .now)) is)))),
+    )
+
+answer-said-requires : tie.Need-answer-said-requires
+answer-said-requires c κs = search needs
+
+same-length-2 : tie.Need-same-length-2
+same-length-2 c = search needs
+
+same-length-3 : tie.Need-same-length-3
+same-length-3 c = search needs
+
+same-length-4 : tie.Need-same-length-4
+same-length-4 c = search needs
+
+same-length-5 : tie.Need-same-length-5
+same-length-5 c = search needs
+
+returns-2 : tie.Need-returns-2
+returns-2 c =
+    let a = c .before .before .before .before .before .before .before .before .before .before .before .before .before .before .before .before .before .before .before .args in
+    let word = c .before .before .before .before .before .before .before .before .before .before .before .before .before .starts-with in
+    let done = c .before .before .before .before .before .before .before .answer-said in
+    let is = sym (sym (word .ensures) ∙ c .before .before .before .before .before .before .before .before .before .before .before .before .if1 .left) in
+    let s = line-said (a .journal) (a .register .now) (a .line .now) (sym (word .ensures) ∙ c .before .before .before .before .before .before .before .before .before .before .before .before .if1 .left) in (
+      done .ensures .0 ∙ ap (λ (x : Stepped). x .journal) s,
+      (done .ensures .1 .0 ∙ ap (λ (x : Stepped). length (x .text)) s, (done .ensures .1 .1 .0 ∙ ap (λ (x : Stepped). putAt (a .out .now) 0 (x .text)) s, (done .ensures .1 .1 .1 .0 ∙ ap (λ (x : Stepped). x .register) s, (done .ensures .1 .1 .1 .1 .0 ∙ ap (own (lineWords wordRoom (a .line .now)) (a .words .now)) is, done .ensures .1 .1 .1 .1 .1 ∙ ap (own (linePrices zones (a .line .now)) (a .prices .now)) is)))),
+    )
+
+pub answer-line-spec : {M : Type 1} → statement M
+answer-line-spec =
+    tie.close
+    (tie.spec
+    slice-aggregate-starts-with
+    starts-with-requires
+    behind-requires
+    answer-fresh-requires
+    same-length
+    returns
+    answer-said-requires
+    same-length-2
+    same-length-3
+    same-length-4
+    same-length-5
+    returns-2)

@@ -1,0 +1,73 @@
+use borrow.Author.Needs.{needs}
+use native.Mathlib.Omega.{arith}
+use mathlib.Core.Path.{_≡_, sym, _∙_, ap}
+use mathlib.Core.Bool.{Bool, true, false}
+use lib.ListN.{length, take}
+use lib.Seq.{length-take-le}
+use borrow.Author.Tests.{not-true, not-false}
+use Rattle.text.specs.Put.{putAt}
+use Rattle.replay.specs.Replay.{Stepped, callStep}
+use borrow.Author.Needs.{needs}
+use Rattle.replay.proofs.answer_ready.Statement.{statement}
+use Rattle.replay.proofs.answer_ready.Tie as tie
+
+turn-away-requires : tie.Need-turn-away-requires
+turn-away-requires c κs = search needs
+
+same-length : tie.Need-same-length
+same-length c = search needs
+
+returns : tie.Need-returns
+returns c =
+    let a = c .before .before .before .before .before .before .before .before .before .args in
+    let done = c .before .before .turn-away in
+    let list = take (a .count) (a .words .now) in
+    let prices = take (a .priced) (a .prices .now) in
+    let s = ap (λ (t : Bool). callStep t (a .journal) (a .register .now) (a .call) list prices) (sym (not-true (a .journal .ready) (c .before .before .before .before .if1 .taken))) in (
+      done .ensures .0 ∙ ap (λ (x : Stepped). x .journal) s,
+      (done .ensures .1 .0 ∙ ap (λ (x : Stepped). length (x .text)) s, (done .ensures .1 .1 ∙ ap (λ (x : Stepped). putAt (a .out .now) 0 (x .text)) s, ap (λ (x : Stepped). x .register) s)),
+    )
+
+slice-aggregate-answer-call : tie.Need-slice-aggregate-answer-call
+slice-aggregate-answer-call c =
+    let a = c .before .before .before .before .before .before .before .before .args in
+    sym (length-take-le (a .count) (a .words .now) (search needs))
+
+slice-aggregate-answer-call-2 : tie.Need-slice-aggregate-answer-call-2
+slice-aggregate-answer-call-2 c =
+    let a = c .before .before .before .before .before .before .before .before .before .args in
+    sym (length-take-le (a .priced) (a .prices .now) (search needs))
+
+answer-call-requires : tie.Need-answer-call-requires
+answer-call-requires c κs = search needs
+
+same-length-2 : tie.Need-same-length-2
+same-length-2 c = search needs
+
+same-length-3 : tie.Need-same-length-3
+same-length-3 c = search needs
+
+returns-2 : tie.Need-returns-2
+returns-2 c =
+    let a = c .before .before .before .before .before .before .before .before .before .before .before .before .before .before .before .args in
+    let done = c .before .before .before .before .answer-call in
+    let list = take (a .count) (a .words .now) in
+    let prices = take (a .priced) (a .prices .now) in
+    let s = ap (λ (t : Bool). callStep t (a .journal) (a .register .now) (a .call) list prices) (sym (not-false (a .journal .ready) (c .before .before .before .before .before .before .before .before .before .before .if1 .left))) in (
+      done .ensures .0 ∙ ap (λ (x : Stepped). x .journal) s,
+      (done .ensures .1 .0 ∙ ap (λ (x : Stepped). length (x .text)) s, (done .ensures .1 .1 .0 ∙ ap (λ (x : Stepped). putAt (a .out .now) 0 (x .text)) s, done .ensures .1 .1 .1 ∙ ap (λ (x : Stepped). x .register) s)),
+    )
+
+pub answer-ready-spec : {M : Type 1} → statement M
+answer-ready-spec =
+    tie.close
+    (tie.spec
+    turn-away-requires
+    same-length
+    returns
+    slice-aggregate-answer-call
+    slice-aggregate-answer-call-2
+    answer-call-requires
+    same-length-2
+    same-length-3
+    returns-2)

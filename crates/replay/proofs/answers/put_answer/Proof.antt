@@ -1,0 +1,108 @@
+use borrow.Author.Needs.{needs}
+use native.Mathlib.Omega.{arith}
+use mathlib.Core.Path.{_≡_, sym, _∙_, ap}
+use mathlib.Core.List.{List}
+use lib.ListN.{length, take, length-take, length-map}
+use Rattle.market.specs.Books.{pathsOf}
+use Rattle.text.specs.Put.{putAt}
+use Rattle.replay.specs.Replay.{offerOf}
+use Rattle.replay.proofs.LineLaws.{text-nothing, text-offers, text-amounts}
+use borrow.Author.Needs.{needs}
+use Rattle.replay.proofs.answers.put_answer.Statement.{statement}
+use Rattle.replay.proofs.answers.put_answer.Tie as tie
+
+offers-of-requires : tie.Need-offers-of-requires
+offers-of-requires c κs = search needs
+
+enum-told : tie.Need-enum-told
+enum-told c = search needs
+
+slice-aggregate-put-reply : tie.Need-slice-aggregate-put-reply
+slice-aggregate-put-reply c = search needs
+
+put-reply-requires : tie.Need-put-reply-requires
+put-reply-requires c κs = search needs
+
+enum-told-2 : tie.Need-enum-told-2
+enum-told-2 c = search needs
+
+array-share-prefix-slots : tie.Need-array-share-prefix-slots
+array-share-prefix-slots c =
+    let o = c .before .before .before .before .before .before .before .before .before .before .before .args .outcome in
+    let offers = c .before .before .before .before .offers-of in
+    let long = ap length (offers .ensures .1 .1) ∙ length-map (pathsOf (o .book)) offerOf in
+    omega (arith, length-take (offers .result .count) (offers .result .slots), long, offers .ensures .0)
+
+slice-aggregate-put-reply-2 : tie.Need-slice-aggregate-put-reply-2
+slice-aggregate-put-reply-2 c =
+    let o = c .before .before .before .before .before .before .before .before .before .before .before .before .args .outcome in
+    let offers = c .before .before .before .before .before .offers-of in
+    let long = ap length (offers .ensures .1 .1) ∙ length-map (pathsOf (o .book)) offerOf in
+    offers .ensures .0 ∙ sym long
+
+put-reply-requires-2 : tie.Need-put-reply-requires-2
+put-reply-requires-2 c κs =
+    let o = c .before .before .before .before .before .before .before .before .before .before .before .before .args .outcome in
+    let offers = c .before .before .before .before .before .offers-of in
+    let long = ap length (offers .ensures .1 .1) ∙ length-map (pathsOf (o .book)) offerOf in
+    (search needs, (omega (arith, long, offers .ensures .0, offers .ensures .1 .0), ((search needs, search needs), (search needs, search needs))))
+
+enum-told-3 : tie.Need-enum-told-3
+enum-told-3 c = search needs
+
+put-reply-requires-3 : tie.Need-put-reply-requires-3
+put-reply-requires-3 c κs = search needs
+
+same-length : tie.Need-same-length
+same-length c = search needs
+
+returns : tie.Need-returns
+returns c =
+    let a = c .before .before .before .before .before .before .before .before .before .before .before .before .before .before .before .args in
+    let offers = c .before .before .before .before .before .before .before .before .offers-of in
+    let put = c .before .before .put-reply in
+    let same = text-nothing (a .outcome) (a .amounts .now) (a .answers .now) (a .results .now) (offers .result .count) (offers .ensures .0) (a .tell) (c .before .before .before .before .before .enum-told .given .1) in
+    (put .ensures .0 ∙ ap length same, put .ensures .1 ∙ ap (putAt (a .out .now) 0) same)
+
+same-length-2 : tie.Need-same-length-2
+same-length-2 c = search needs
+
+returns-2 : tie.Need-returns-2
+returns-2 c =
+    let a = c .before .before .before .before .before .before .before .before .before .before .before .before .before .before .before .args in
+    let offers = c .before .before .before .before .before .before .before .before .offers-of in
+    let put = c .before .before .put-reply2 in
+    let same = text-offers (a .outcome) (a .amounts .now) (a .answers .now) (a .results .now) (offers .result .count) (offers .ensures .0) (a .tell) (c .before .before .before .before .before .enum-told2 .given .1) (take (offers .result .count) (offers .result .slots)) (offers .ensures .1 .1) in
+    (put .ensures .0 ∙ ap length same, put .ensures .1 ∙ ap (putAt (a .out .now) 0) same)
+
+same-length-3 : tie.Need-same-length-3
+same-length-3 c = search needs
+
+returns-3 : tie.Need-returns-3
+returns-3 c =
+    let a = c .before .before .before .before .before .before .before .before .before .before .before .before .before .before .args in
+    let offers = c .before .before .before .before .before .before .before .offers-of in
+    let put = c .before .before .put-reply3 in
+    let same = text-amounts (a .outcome) (a .amounts .now) (a .answers .now) (a .results .now) (offers .result .count) (offers .ensures .0) (a .tell) (c .before .before .before .before .enum-told3 .given .1) in
+    (put .ensures .0 ∙ ap length same, put .ensures .1 ∙ ap (putAt (a .out .now) 0) same)
+
+pub put-answer-spec : {M : Type 1} → statement M
+put-answer-spec =
+    tie.close
+    (tie.spec
+    offers-of-requires
+    enum-told
+    slice-aggregate-put-reply
+    put-reply-requires
+    enum-told-2
+    array-share-prefix-slots
+    slice-aggregate-put-reply-2
+    put-reply-requires-2
+    enum-told-3
+    put-reply-requires-3
+    same-length
+    returns
+    same-length-2
+    returns-2
+    same-length-3
+    returns-3)

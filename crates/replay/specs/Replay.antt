@@ -1,0 +1,161 @@
+-- docs/JOURNAL.md: one line of a journal, what is printed behind it, and the state after it. The calls are the engine's own, by `step`.
+use mathlib.Core.Bool.{Bool, true, false, cond}
+use mathlib.Core.List.{List, [], map}
+use Prim.Native.Nat.{ℕ, zero, suc, _*_}
+use lib.Dec.{ltb}
+use lib.IntN.{ℤ}
+use lib.ListN.{length, take, drop, replicate}
+use Rattle.market.specs.Answers.{answerNumber, formRefusal}
+use Rattle.market.specs.Books.{pathsOf}
+use Rattle.market.specs.Fresh.{fresh}
+use Rattle.market.specs.Limits.{bidderLimit, bidAnswerWords, pathAnswerWords, pathLimit, scratchWords, zones}
+use Rattle.market.specs.declared.answer.Answer.{Answer}
+use Rattle.market.specs.declared.answer.Answer.the-variants.{Refused}
+use Rattle.market.specs.declared.answer.Outcome.{Outcome}
+use Rattle.market.specs.declared.book.Book.{Book}
+use Rattle.market.specs.declared.book.Path.{Path}
+use Rattle.engine.specs.Lent.{Lent, lent}
+use Rattle.engine.specs.Step.{Left, step}
+use Rattle.engine.specs.declared.calls.Call.{Call}
+use Rattle.engine.specs.declared.calls.Call.the-variants.{Deposit, Withdraw, Open, Round, Pay, Default, Retire, Rent, Payout, Disburse, Recover}
+use Rattle.fields.specs.Fields.{startsWith}
+use Rattle.journal_answers.specs.Answers.{replyText}
+use Rattle.journal_answers.specs.declared.Told.the-variants.{Nothing, Listed}
+use Rattle.journal_fresh.specs.FreshLines.{freshSaid}
+use Rattle.journal_fresh.specs.declared.FreshLine.{FreshLine}
+use Rattle.journal_lines.specs.Journal.{lineSaid, lineWords, linePrices}
+use Rattle.journal_lines.specs.Verbs.{freshWord}
+use Rattle.journal_lines.specs.declared.Said.{Said}
+use Rattle.journal_lines.specs.declared.Said.the-variants.{Faulty, Called}
+use Rattle.replay.specs.declared.Journal.{Journal}
+use Rattle.replay.specs.declared.answers.Tell.{Tell}
+use Rattle.replay.specs.declared.answers.Tell.the-variants as tells
+
+-- ---- What a call is lent
+
+-- a line has at most 65,536 bytes, and a word takes at least two of them
+abbrev pub wordRoom : ℕ
+wordRoom = 32768
+
+-- "32 provincial charges, 32 export charges, 32 meter, 32 intertie energies", one column behind another
+abbrev pub column : ℕ → List ℕ → List ℕ
+column k list = take bidderLimit (drop (k * bidderLimit) list)
+
+-- the line's own lists, lists for what the call answers, and a scratch full of zeros
+abbrev pub lentWith : List ℕ → List ℤ → List ℕ → List ℕ → List ℕ → Lent
+lentWith list prices amounts answers results =
+    lent list list prices
+    (column 0 list)
+    (column 1 list)
+    (column 2 list)
+    (column 3 list)
+    amounts
+    answers
+    results
+    (replicate scratchWords 0)
+
+-- what a call leaves, its lists for answers full of zeros
+abbrev pub leftBy : Book → List ℕ → Call → List ℕ → List ℤ → Left
+leftBy b register call list prices =
+    step b register call
+    (lentWith list prices (replicate bidderLimit 0) (replicate bidAnswerWords 0) (replicate pathAnswerWords 0))
+
+-- ---- What is printed behind a call
+
+-- what an answered call tells besides its number
+abbrev pub tellBy : Call → Tell
+tellBy (Deposit bidder to amount) = tells.Nothing
+tellBy (Withdraw bidder from amount) = tells.Nothing
+tellBy (Open kind period) = tells.Offers
+tellBy Round = tells.Nothing
+tellBy (Pay bidder amount) = tells.Nothing
+tellBy (Default bidder) = tells.Nothing
+tellBy (Retire day) = tells.Nothing
+tellBy (Rent amount) = tells.Nothing
+tellBy (Payout day failed) = tells.Amounts
+tellBy (Disburse total) = tells.Amounts
+tellBy (Recover total) = tells.Amounts
+
+-- a number of paths, at most as many as a book has slots
+abbrev pub withinSlots : ℕ → ℕ
+withinSlots n = cond (ltb pathLimit n) pathLimit n
+
+abbrev pub offerOf : Path → ℕ
+offerOf p = p .offer .0
+
+abbrev pub offersOf : Book → List ℕ
+offersOf b = map offerOf (pathsOf b)
+
+abbrev pub textBy : Tell → Outcome → List ℕ → List ℕ → List ℕ → List ℕ
+textBy tells.Nothing o amounts answers results = replyText (o .answer) Nothing [] answers (length (pathsOf (o .book))) results
+textBy tells.Offers o amounts answers results = replyText (o .answer) Listed (offersOf (o .book)) answers (length (pathsOf (o .book))) results
+textBy tells.Amounts o amounts answers results = replyText (o .answer) Listed amounts answers (length (pathsOf (o .book))) results
+
+abbrev pub callText : Call → Left → List ℕ
+callText call left = textBy (tellBy call) (left .outcome) (left .amounts) (left .answers) (left .results)
+
+-- ---- A line
+
+-- the state after a line, and what is printed behind it
+pub record Stepped : Type 0 where
+  pub journal : Journal
+  pub register : List ℕ
+  pub text : List ℕ
+
+-- "A line that has not this form answers `= refused 40` and changes nothing"
+abbrev pub refusedText : List ℕ
+refusedText = replyText (Refused formRefusal) Nothing [] [] 0 []
+
+abbrev pub turnedAway : Journal → List ℕ → Stepped
+turnedAway j register = record { journal = j; register = register; text = refusedText }
+
+-- a call, by the engine's own rules
+abbrev pub calledBy : Call → Left → Stepped
+calledBy call left =
+    record {
+      journal = record { ready = true; book = left .outcome .book };
+      register = left .words;
+      text = callText call left;
+    }
+
+-- "so does a call before an answered fresh"
+abbrev pub callStep : Bool → Journal → List ℕ → Call → List ℕ → List ℤ → Stepped
+callStep true j register call list prices = calledBy call (leftBy (j .book) register call list prices)
+callStep false j register call list prices = turnedAway j register
+
+-- "A second fresh starts anew"; a refused one changes nothing
+abbrev pub freshState : Journal → ℕ → Book → Journal
+freshState j zero book = record { ready = true; book = book }
+freshState j (suc n) book = j
+
+abbrev pub freshBy : Journal → List ℕ → Outcome → Stepped
+freshBy j register o =
+    record {
+      journal = freshState j (answerNumber (o .answer)) (o .book);
+      register = register;
+      text = replyText (o .answer) Nothing [] [] 0 [];
+    }
+
+abbrev pub freshStep : Journal → List ℕ → FreshLine → Stepped
+freshStep j register f = cond (f .stands) (freshBy j register (fresh (f .routes) (f .count))) (turnedAway j register)
+
+abbrev pub saidStep : Journal → List ℕ → Said → List ℕ → List ℤ → Stepped
+saidStep j register Faulty list prices = turnedAway j register
+saidStep j register (Called call n m) list prices = callStep (j .ready) j register call list prices
+
+-- whether a line is that of a fresh book
+abbrev pub isFresh : List ℕ → Bool
+isFresh line = startsWith freshWord line
+
+unfoldable pub lineStep : Journal → List ℕ → List ℕ → Stepped
+lineStep j register line =
+    cond (isFresh line)
+    (freshStep j register (freshSaid (drop (length freshWord) line)))
+    (saidStep j register (lineSaid wordRoom zones line) (lineWords wordRoom line) (linePrices zones line))
+
+-- the words and prices that a line itself has, which its room then holds at the front
+abbrev pub ownWords : List ℕ → List ℕ
+ownWords line = cond (isFresh line) [] (lineWords wordRoom line)
+
+abbrev pub ownPrices : List ℕ → List ℤ
+ownPrices line = cond (isFresh line) [] (linePrices zones line)

@@ -1,0 +1,46 @@
+use borrow.Author.Needs.{needs}
+use mathlib.Core.Path.{refl}
+use mathlib.Core.List.{[], _∷_}
+use Rattle.fields.specs.Fields.{newline}
+use Rattle.rows.specs.Rows.{row, lastRow}
+use Rattle.writing.proofs.PutLaws.{written-none, written-room, written-fits, written-on, written-all}
+use Rattle.rows.proofs.put_last_row.Statement.{statement}
+use Rattle.rows.proofs.put_last_row.Tie as tie
+
+put-row-requires : tie.Need-put-row-requires
+put-row-requires c κs =
+    let start = c .before .before .before .before in
+    let a = start .args in
+    let numbers = row (a .mark .now) (a .numbers .now) in
+    let s = written-none (a .out .now) (a .at) (lastRow (a .mark .now) (a .numbers .now)) (start .pre) in
+    written-fits s numbers (newline ∷ []) refl
+
+slice-aggregate-put-bytes : tie.Need-slice-aggregate-put-bytes
+slice-aggregate-put-bytes c = search needs
+
+put-bytes-requires : tie.Need-put-bytes-requires
+put-bytes-requires c κs =
+    let start = c .before .before .before .before .before .before .before .before .before in
+    let a = start .args in
+    let numbers = row (a .mark .now) (a .numbers .now) in
+    let s = written-none (a .out .now) (a .at) (lastRow (a .mark .now) (a .numbers .now)) (start .pre) in
+    let put = c .before .before .before .before .put-row in
+    written-room (written-on s numbers (newline ∷ []) refl (put .ensures .0) (put .ensures .1))
+
+same-length : tie.Need-same-length
+same-length c = search needs
+
+returns : tie.Need-returns
+returns c =
+    let start = c .before .before .before .before .before .before .before .before .before .before .before .before in
+    let a = start .args in
+    let numbers = row (a .mark .now) (a .numbers .now) in
+    let s = written-none (a .out .now) (a .at) (lastRow (a .mark .now) (a .numbers .now)) (start .pre) in
+    let put = c .before .before .before .before .before .before .before .put-row in
+    let end = c .before .before .put-bytes in
+    written-all (written-on s numbers (newline ∷ []) refl (put .ensures .0) (put .ensures .1)) (end .ensures .0) (end .ensures .1)
+
+pub put-last-row-spec : {M : Type 1} → statement M
+put-last-row-spec =
+    tie.close
+    (tie.spec put-row-requires slice-aggregate-put-bytes put-bytes-requires same-length returns)

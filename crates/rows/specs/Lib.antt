@@ -1,0 +1,2 @@
+-- Rows of a journal's output.
+pub mod Rows

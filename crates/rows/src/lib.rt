@@ -1,0 +1,76 @@
+// Rows of a journal's output, put into a buffer: a mark, and numbers with a space before each.
+ghost use mathlib.Core.Path.{_≡_};
+ghost use mathlib.Core.List.{_∷_};
+ghost use Prim.Native.Nat.{_+_, _*_, _≤_};
+ghost use lib.ListN.{length};
+ghost use Rattle.text.specs.Decimal.{decimal};
+ghost use Rattle.text.specs.Put.{putAt};
+ghost use Rattle.fields.specs.Fields.{space};
+ghost use Rattle.rows.specs.Rows.{spaced, row, lastRow, rows};
+
+// A number behind one space; the place behind it.
+fn put_behind_space(out: &mut [u8], at: usize, n: u64) -> usize
+    requires { ⌜ at + length (space ∷ decimal n) ≤ length (now out) ⌝ }
+    ensures place { λ r. ⌜ r ≡ at + length (space ∷ decimal n) ⌝ }
+    ensures bytes { λ _. ⌜ now (out .exit) ≡ putAt (now (out .entry)) at (space ∷ decimal n) ⌝ }
+{
+    out[at] = fields::SPACE;
+    text::put_number(out, at + 1, n)
+}
+
+// Numbers, each behind one space; the place behind them.
+fn put_spaced(out: &mut [u8], at: usize, numbers: &[u64]) -> usize
+    requires { ⌜ at + length (spaced (now numbers)) ≤ length (now out) ⌝ }
+    ensures place { λ r. ⌜ r ≡ at + length (spaced (now (numbers .entry))) ⌝ }
+    ensures bytes { λ _. ⌜ now (out .exit) ≡ putAt (now (out .entry)) at (spaced (now (numbers .entry))) ⌝ }
+{
+    let mut place = at;
+    for i in 0..numbers.len() {
+        place = put_behind_space(out, place, numbers[i]);
+    }
+    place
+}
+
+// A mark and numbers; the place behind them.
+pub fn put_row(out: &mut [u8], at: usize, mark: &[u8], numbers: &[u64]) -> usize
+    requires { ⌜ at + length (row (now mark) (now numbers)) ≤ length (now out) ⌝ }
+    ensures place { λ r. ⌜ r ≡ at + length (row (now (mark .entry)) (now (numbers .entry))) ⌝ }
+    ensures bytes { λ _. ⌜ now (out .exit) ≡ putAt (now (out .entry)) at (row (now (mark .entry)) (now (numbers .entry))) ⌝ }
+{
+    let next = text::put_bytes(out, at, mark);
+    put_spaced(out, next, numbers)
+}
+
+// A row that ends its line; the place behind it.
+pub fn put_last_row(out: &mut [u8], at: usize, mark: &[u8], numbers: &[u64]) -> usize
+    requires { ⌜ at + length (lastRow (now mark) (now numbers)) ≤ length (now out) ⌝ }
+    ensures place { λ r. ⌜ r ≡ at + length (lastRow (now (mark .entry)) (now (numbers .entry))) ⌝ }
+    ensures bytes { λ _. ⌜ now (out .exit) ≡ putAt (now (out .entry)) at (lastRow (now (mark .entry)) (now (numbers .entry))) ⌝ }
+{
+    let end = put_row(out, at, mark, numbers);
+    text::put_bytes(out, end, b"\n")
+}
+
+// So many rows of a size, read one behind another in a list.
+pub fn put_rows(
+    out: &mut [u8],
+    at: usize,
+    mark: &[u8],
+    list: &[u64],
+    size: usize,
+    count: usize,
+) -> usize
+    requires { ⌜ count * size ≤ length (now list) ⌝ }
+    requires { ⌜ at + length (rows (now mark) size count (now list)) ≤ length (now out) ⌝ }
+    ensures place { λ r. ⌜ r ≡ at + length (rows (now (mark .entry)) size count (now (list .entry))) ⌝ }
+    ensures bytes { λ _. ⌜ now (out .exit) ≡ putAt (now (out .entry)) at (rows (now (mark .entry)) size count (now (list .entry))) ⌝ }
+{
+    let mut place = at;
+    let mut from = 0;
+    for k in 0..count {
+        let to = from + size;
+        place = put_row(out, place, mark, &list[from..to]);
+        from = to;
+    }
+    place
+}
