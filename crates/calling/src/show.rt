@@ -6,7 +6,6 @@ use market::book::Book;
 use market::book::Kind;
 use market::book::Period;
 use market::book::Stage;
-use market::engine::Engine;
 use market::units::Day;
 
 // What every lent word is before a call writes to it.
@@ -109,94 +108,4 @@ pub fn book(given: Book) {
     report::number(given.entries as u64);
     stage(at);
     report::line();
-}
-
-// A bidder's cash, applied, letter, hold, owed and step.
-pub fn bidder(given: Book, number: usize) {
-    report::text(b"bidder");
-    report::number(number as u64);
-    if number < Engine::BIDDERS {
-        report::bidder(given.bidders[number]);
-    }
-    report::line();
-}
-
-// A path's offer and what the auction has sold of it.
-pub fn path(given: Book, number: usize) {
-    report::text(b"path");
-    report::number(number as u64);
-    if number < Engine::PATHS {
-        let shown = given.paths[number];
-        let offer = shown.offer;
-        let sold = shown.sold;
-        report::number(offer.0 as u64);
-        report::number(sold.0 as u64);
-    }
-    report::line();
-}
-
-fn word(words: &[u32], at: usize) -> u32 {
-    if at < words.len() { words[at] } else { BLANK }
-}
-
-fn wide_word(words: &[u64], at: usize) -> u64 {
-    if at < words.len() {
-        words[at]
-    } else {
-        BLANK_WIDE
-    }
-}
-
-fn words_to(words: &[u32], end: usize) {
-    for at in 0..end {
-        report::number(word(words, at) as u64);
-    }
-}
-
-fn wide_words_to(words: &[u64], end: usize) {
-    for at in 0..end {
-        report::number(wide_word(words, at));
-    }
-}
-
-// Whether every word from a place on is blank.
-fn blank_from(words: &[u32], from: usize) -> bool {
-    for at in from..words.len() {
-        if word(words, at) != BLANK {
-            return false;
-        }
-    }
-    true
-}
-
-fn wide_blank_from(words: &[u64], from: usize) -> bool {
-    for at in from..words.len() {
-        if wide_word(words, at) != BLANK_WIDE {
-            return false;
-        }
-    }
-    true
-}
-
-fn past(blank: bool) {
-    if blank {
-        report::text(b" past blank");
-    } else {
-        report::text(b" past written");
-    }
-    report::line();
-}
-
-// The first words of the register, and whether those past them are blank.
-pub fn register(words: &[u32], end: usize) {
-    report::text(b"register");
-    words_to(words, end);
-    past(blank_from(words, end));
-}
-
-// The first words of an answered list, and whether those past them are blank.
-pub fn list(name: &[u8], words: &[u64], end: usize) {
-    report::text(name);
-    wide_words_to(words, end);
-    past(wide_blank_from(words, end));
 }
