@@ -4,10 +4,10 @@ use mathlib.Core.Bool.{Bool, true, false, cond, not, _&&_, and-false}
 use mathlib.Core.List.{List, [], _∷_}
 use Prim.Native.Nat.{ℕ, zero, suc, _+_, _*_, _-_, _≤_, _<_}
 use native.Mathlib.Omega.{arith}
-use lib.Dec.{leb, eqb}
+use lib.Dec.{leb}
 use lib.ListN.{length, getD, drop}
 use borrow.Author.Tests.{le-leb, lt-leb, leb-true, leb-false, eq-eqb, ne-eqb}
-use Rattle.text.specs.Decimal.{zeroByte, isDigit, digitsIn, valueFrom, plain}
+use Rattle.text.specs.Decimal.{zeroByte, digitsIn, valueFrom, plain}
 use Rattle.text.proofs.DecimalLaws.{is-digit}
 use Rattle.text.proofs.ReadLaws.{below-digits, above-digits, past-text, past-digits, first-digit}
 use Rattle.fields.specs.declared.Field.{Field}

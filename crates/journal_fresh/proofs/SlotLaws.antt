@@ -1,10 +1,9 @@
 -- Laws about fields that are read to the end of a text, the first of them laid in slots.
 use mathlib.Core.Path.{_≡_, refl, sym, _∙_, ap}
-use mathlib.Core.Bool.{Bool, true, false, cond}
+use mathlib.Core.Bool.{Bool, cond}
 use mathlib.Core.List.{List, [], _∷_, _++_, append-assoc, append-nil}
 use Prim.Native.Nat.{ℕ, zero, suc, _+_, _-_, _≤_, _<_}
 use native.Mathlib.Omega.{arith}
-use lib.Dec.{eqb}
 use lib.ListN.{length, take, drop, set, length-append, length-take}
 use lib.Seq.{drop-drop, take-all, take-append-le}
 use borrow.Author.Tests.{eq-eqb, ne-eqb}

@@ -1,5 +1,5 @@
 -- Laws about the first of four words that stands.
-use mathlib.Core.Path.{_≡_, refl}
+use mathlib.Core.Path.{_≡_}
 use mathlib.Core.Bool.{Bool, true, false, cond}
 use Rattle.journal_lines.specs.declared.verbs.Named.{Named}
 

@@ -6,7 +6,7 @@ use Prim.Native.Nat.{ℕ, zero, suc}
 use native.Mathlib.Omega.{arith}
 use lib.IntN.{ℤ}
 use lib.ListN.{length, drop, replicate}
-use Rattle.market.specs.Answers.{firstOf, answerNumber, decided, answered}
+use Rattle.market.specs.Answers.{firstOf, decided, answered}
 use Rattle.market.specs.Fresh.{freshRefusals, freshBook, noBook, fresh}
 use Rattle.market.specs.Limits.{scratchWords, zones}
 use Rattle.market.specs.declared.book.Book.{Book}

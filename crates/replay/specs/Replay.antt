@@ -9,7 +9,6 @@ use Rattle.market.specs.Answers.{answerNumber, formRefusal}
 use Rattle.market.specs.Books.{pathsOf}
 use Rattle.market.specs.Fresh.{fresh}
 use Rattle.market.specs.Limits.{bidderLimit, bidAnswerWords, pathAnswerWords, pathLimit, scratchWords, zones}
-use Rattle.market.specs.declared.answer.Answer.{Answer}
 use Rattle.market.specs.declared.answer.Answer.the-variants.{Refused}
 use Rattle.market.specs.declared.answer.Outcome.{Outcome}
 use Rattle.market.specs.declared.book.Book.{Book}

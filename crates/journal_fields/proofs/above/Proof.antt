@@ -2,7 +2,6 @@ use borrow.Author.Needs.{needs}
 use native.Mathlib.Omega.{arith}
 use mir.Facts.{toZ-pos}
 use mir.Syntax.{w64}
-use borrow.Author.Needs.{needs}
 use Rattle.journal_fields.proofs.above.Statement.{statement}
 use Rattle.journal_fields.proofs.above.Tie as tie
 

@@ -3,11 +3,8 @@ use native.Mathlib.Omega.{arith}
 use lib.ListN.{length, drop, length-drop}
 use lib.Seq.{take-all}
 use Prim.Native.Nat.{_-_}
-use borrow.Author.Needs.{needs}
 use Rattle.journal_fields.proofs.behind.Statement.{statement}
 use Rattle.journal_fields.proofs.behind.Tie as tie
-use Rattle.journal_fields.proofs.behind.Reads as reads
-use Rattle.journal_fields.proofs.behind.Lts as lts
 
 sub-result : tie.Need-sub-result
 sub-result c = search needs

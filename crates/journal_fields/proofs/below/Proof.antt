@@ -1,10 +1,8 @@
 use borrow.Author.Needs.{needs}
 use native.Mathlib.Omega.{arith}
-use mathlib.Core.Path.{sym, _∙_, subst}
 use mir.Facts.{toZ-ofZ, toZ-pos}
 use mir.Syntax.{w64}
 use Rattle.journal_fields.proofs.FieldLaws.{below-fits, opposite}
-use borrow.Author.Needs.{needs}
 use Rattle.journal_fields.proofs.below.Statement.{statement}
 use Rattle.journal_fields.proofs.below.Tie as tie
 

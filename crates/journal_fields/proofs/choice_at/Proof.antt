@@ -1,8 +1,6 @@
 use borrow.Author.Needs.{needs}
-use native.Mathlib.Omega.{arith}
 use mathlib.Core.Path.{sym, _∙_}
 use Rattle.journal_fields.proofs.FieldLaws.{word-room, choice-first, choice-second, choice-none}
-use borrow.Author.Needs.{needs}
 use Rattle.journal_fields.proofs.choice_at.Statement.{statement}
 use Rattle.journal_fields.proofs.choice_at.Tie as tie
 

@@ -1,7 +1,6 @@
 use borrow.Author.Needs.{needs}
 use native.Mathlib.Omega.{arith}
 use Rattle.journal_fields.proofs.FieldLaws.{last-open, last-here}
-use borrow.Author.Needs.{needs}
 use Rattle.journal_fields.proofs.last_number.Statement.{statement}
 use Rattle.journal_fields.proofs.last_number.Tie as tie
 

@@ -5,7 +5,6 @@ use mathlib.Core.List.{[], _∷_}
 use borrow.Author.Tests.{not-true, not-false}
 use Rattle.fields.specs.Fields.{space}
 use Rattle.journal_fields.proofs.FieldLaws.{word-room, number-absent, number-empty, number-here}
-use borrow.Author.Needs.{needs}
 use Rattle.journal_fields.proofs.number_at.Statement.{statement}
 use Rattle.journal_fields.proofs.number_at.Tie as tie
 

@@ -1,7 +1,7 @@
 use borrow.Author.Needs.{needs}
 use native.Mathlib.Omega.{arith}
 use mathlib.Core.Logic.{⊎-elim}
-use Prim.Native.Nat.{_-_, _≤_}
+use Prim.Native.Nat.{_-_}
 use lib.ListN.{length}
 use Rattle.journal_fields.proofs.NumeralLaws.{NumeralTo, numeral-none, numeral-more, zero-first, too-large, ended-below, ended-above, ended-line}
 use Rattle.journal_fields.proofs.numeral_at.Statement.{statement}

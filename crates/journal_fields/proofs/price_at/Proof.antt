@@ -9,7 +9,6 @@ use Rattle.journal_fields.specs.JournalFields.{minus, priceTop}
 use Rattle.journal_fields.specs.declared.Price.{Price}
 use Rattle.journal_fields.proofs.FieldLaws.{word-room, numeral-within, number-within, price-zero, price-below, price-above}
 use lib.ListN.{drop}
-use borrow.Author.Needs.{needs}
 use Rattle.journal_fields.proofs.price_at.Statement.{statement}
 use Rattle.journal_fields.proofs.price_at.Tie as tie
 

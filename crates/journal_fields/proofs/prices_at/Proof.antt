@@ -1,13 +1,11 @@
 use borrow.Author.Needs.{needs}
 use native.Mathlib.Omega.{arith}
 use mathlib.Core.Path.{sym, _∙_, ap, subst}
-use Prim.Native.Nat.{ℕ, _+_, _≤_}
-use lib.ListN.{drop, set}
+use Prim.Native.Nat.{_+_, _-_}
+use lib.ListN.{set, length}
 use mir.Facts.{toZ-ofZ}
 use mir.Syntax.{w64}
 use Rattle.journal_fields.specs.declared.Price.{Price}
-use Prim.Native.Nat.{_-_}
-use lib.ListN.{length}
 use Rattle.journal_fields.specs.JournalFields.{priceUsed, priceValue}
 use Rattle.journal_fields.proofs.RunLaws.{RunTo, run-none, run-length, run-full, run-ends, run-more}
 use Rattle.journal_fields.proofs.prices_at.Statement.{statement}

@@ -1,13 +1,11 @@
 use borrow.Author.Needs.{needs}
 use native.Mathlib.Omega.{arith}
 use mathlib.Core.Path.{sym, _∙_, ap, subst}
-use Prim.Native.Nat.{ℕ, _+_, _≤_}
-use lib.ListN.{drop, set}
+use Prim.Native.Nat.{_+_, _≤_, _-_}
+use lib.ListN.{drop, set, length}
 use Rattle.fields.specs.Fields.{wordTop}
 use Rattle.fields.specs.declared.Field.{Field}
 use Rattle.journal_fields.proofs.FieldLaws.{number-within}
-use Prim.Native.Nat.{_-_}
-use lib.ListN.{length}
 use Rattle.journal_fields.specs.JournalFields.{wordUsed, wordValue}
 use Rattle.journal_fields.proofs.RunLaws.{RunTo, run-none, run-length, run-full, run-ends, run-more}
 use Rattle.journal_fields.proofs.words_at.Statement.{statement}

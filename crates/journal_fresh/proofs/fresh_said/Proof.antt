@@ -1,23 +1,19 @@
 use borrow.Author.Needs.{needs}
 use native.Mathlib.Omega.{arith}
-use mathlib.Core.Path.{ap₂}
+use mathlib.Core.Path.{ap₂, _≡_, sym, _∙_, ap, subst}
 use mathlib.Core.Bool.{Bool}
 use lib.Dec.{eqb}
-use lib.ListN.{take, set}
+use lib.ListN.{take, set, replicate, length, drop}
 use Rattle.journal_fields.specs.JournalFields.{laid}
-use Rattle.journal_fresh.specs.FreshLines.{routesUsed, routesSaid}
+use Rattle.journal_fresh.specs.FreshLines.{routesUsed, routesSaid, routeAt, routeUsed, routeValue, noSlots, freshSaid}
 use Rattle.journal_fresh.specs.declared.FreshLine.{FreshLine}
-use lib.ListN.{replicate}
 use Rattle.market.specs.Limits.{pathLimit}
 use Rattle.market.specs.declared.book.Route.{Route}
 use Rattle.journal_fresh.specs.declared.RouteField.{RouteField}
 use mathlib.Core.List.{List}
-use mathlib.Core.Path.{_≡_, refl, sym, _∙_, ap, subst}
 use mathlib.Core.Logic.{⊎-elim}
 use Prim.Native.Nat.{ℕ, _+_, _-_, _≤_}
-use lib.ListN.{length, drop}
-use Rattle.journal_fresh.specs.FreshLines.{routeAt, routeUsed, routeValue, noSlots, freshSaid}
-use Rattle.journal_fresh.proofs.SlotLaws.{SlotsTo, slots-none, slots-length, slots-count, slots-bytes, slots-list, slots-set, slots-past}
+use Rattle.journal_fresh.proofs.SlotLaws.{SlotsTo, slots-none, slots-count, slots-bytes, slots-list, slots-set, slots-past}
 use Rattle.journal_fresh.proofs.fresh_said.Statement.{statement}
 use Rattle.journal_fresh.proofs.fresh_said.Tie as tie
 

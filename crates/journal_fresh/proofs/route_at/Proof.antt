@@ -1,7 +1,7 @@
 use borrow.Author.Needs.{needs}
 use native.Mathlib.Omega.{arith}
 use mathlib.Core.Path.{sym, _∙_, ap, subst}
-use Prim.Native.Nat.{ℕ, _+_, _≤_}
+use Prim.Native.Nat.{_+_, _≤_}
 use lib.ListN.{drop}
 use borrow.Author.Tests.{not-true, not-false}
 use mathlib.Core.Bool.{_&&_}
@@ -11,9 +11,7 @@ use Rattle.fields.specs.Fields.{wordTop}
 use Rattle.fields.specs.declared.Field.{Field}
 use Rattle.journal_fields.specs.JournalFields.{stands}
 use Rattle.journal_fields.proofs.FieldLaws.{number-within}
-use Rattle.journal_fresh.specs.declared.RouteField.{RouteField}
 use Rattle.journal_fresh.proofs.RouteLaws.{route-none, route-here, routed}
-use borrow.Author.Needs.{needs}
 use Rattle.journal_fresh.proofs.route_at.Statement.{statement}
 use Rattle.journal_fresh.proofs.route_at.Tie as tie
 

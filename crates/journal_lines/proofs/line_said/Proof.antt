@@ -1,12 +1,8 @@
 use borrow.Author.Needs.{needs}
-use native.Mathlib.Omega.{arith}
-use mathlib.Core.Path.{sym, _∙_, ap, subst}
-use Prim.Native.Nat.{ℕ, _+_, _≤_}
-use lib.ListN.{drop, length}
+use mathlib.Core.Path.{_∙_}
+use lib.ListN.{length}
 use Rattle.journal_lines.proofs.SaidLaws.{said-line, words-line, prices-line}
 use Rattle.journal_lines.specs.declared.verbs.Verb.the-variants as verbs
-use lib.IntN.{ℤ}
-use borrow.Author.Needs.{needs}
 use Rattle.journal_lines.proofs.line_said.Statement.{statement}
 use Rattle.journal_lines.proofs.line_said.Tie as tie
 

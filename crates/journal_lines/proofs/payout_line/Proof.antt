@@ -1,23 +1,15 @@
 use borrow.Author.Needs.{needs}
-use native.Mathlib.Omega.{arith}
-use mathlib.Core.Path.{sym, _∙_, ap, subst}
-use Prim.Native.Nat.{ℕ, _+_, _≤_}
+use mathlib.Core.Path.{_∙_, ap}
 use lib.ListN.{drop, length}
 use mathlib.Core.Bool.{_&&_}
-use borrow.Author.Tests.{not-true, not-false, eq-eqb, ne-eqb}
+use borrow.Author.Tests.{not-true, not-false}
 use lib.Dec.{eqb}
-use Prim.Native.Nat.{_%_}
 use Rattle.journal_lines.proofs.SaidLaws.{faulty, called, payout-same}
-use Rattle.engine.specs.declared.calls.Call.{Call}
 use Rattle.engine.specs.declared.calls.Call.the-variants as calls
-use Rattle.journal_lines.specs.Journal.{ends, shareCall, columnWords, opening, hourLine}
-use Rattle.journal_fields.specs.JournalFields.{stands, laid, wordsSaid, pricesSaid}
-use Rattle.market.specs.Limits.{quantityWords, zones}
-use Rattle.journal_lines.specs.declared.heads.Opening.{Opening}
+use Rattle.journal_lines.specs.Journal.{ends}
+use Rattle.journal_fields.specs.JournalFields.{laid, pricesSaid}
+use Rattle.market.specs.Limits.{zones}
 use Rattle.journal_lines.specs.declared.heads.HourLine.{HourLine}
-use Rattle.fields.specs.declared.Field.{Field}
-use Rattle.journal_lines.specs.declared.Said.the-variants.{Called}
-use borrow.Author.Needs.{needs}
 use Rattle.journal_lines.proofs.payout_line.Statement.{statement}
 use Rattle.journal_lines.proofs.payout_line.Tie as tie
 

@@ -2,7 +2,6 @@ use borrow.Author.Needs.{needs}
 use native.Mathlib.Omega.{arith}
 use mathlib.Core.Path.{sym}
 use lib.Seq.{length-take-le}
-use borrow.Author.Needs.{needs}
 use Rattle.journaling.proofs.run_front.Statement.{statement}
 use Rattle.journaling.proofs.run_front.Tie as tie
 

@@ -1,21 +1,17 @@
 use borrow.Author.Needs.{needs}
-use native.Mathlib.Omega.{arith}
 use mathlib.Core.Bool.{true}
 use Rattle.market.specs.declared.book.Book.{Book}
-use mathlib.Core.Path.{_≡_, sym, _∙_, ap, subst}
-use mathlib.Core.List.{List}
-use Prim.Native.Nat.{ℕ, _≤_}
+use mathlib.Core.Path.{sym, _∙_, ap, subst}
+use Prim.Native.Nat.{_≤_}
 use lib.ListN.{length, replicate}
 use Rattle.market.specs.Limits.{bidderLimit, bidLimit, bidAnswerWords, pathAnswerWords}
 use Rattle.market.specs.declared.answer.Outcome.{Outcome}
 use Rattle.text.specs.Put.{putAt}
-use Rattle.engine.specs.Step.{Left}
 use Rattle.journal_answers.specs.Answers.{bidsIn}
 use Rattle.replay.specs.declared.Journal.{Journal}
 use Rattle.replay.specs.Replay.{lentWith, leftBy}
 use Rattle.replay.proofs.FewBids.{answers-few}
 use Rattle.replay.proofs.LineLaws.{call-text}
-use borrow.Author.Needs.{needs}
 use Rattle.replay.proofs.answer_call.Statement.{statement}
 use Rattle.replay.proofs.answer_call.Tie as tie
 

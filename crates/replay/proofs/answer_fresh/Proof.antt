@@ -3,18 +3,14 @@ use native.Mathlib.Omega.{arith}
 use Rattle.journal_fresh.specs.FreshLines.{freshSaid}
 use mathlib.Core.Path.{_≡_, sym, _∙_, ap}
 use mathlib.Core.List.{[]}
-use Prim.Native.Nat.{ℕ, _*_}
 use lib.ListN.{length}
 use borrow.Author.Tests.{not-true, not-false}
 use Rattle.market.specs.Answers.{answerNumber}
-use Rattle.market.specs.Fresh.{fresh}
 use Rattle.market.specs.declared.answer.Outcome.{Outcome}
 use Rattle.text.specs.Put.{putAt}
 use Rattle.journal_answers.specs.Answers.{bidsIn}
-use Rattle.journal_fresh.specs.declared.FreshLine.{FreshLine}
-use Rattle.replay.specs.Replay.{Stepped, freshState, freshBy, freshStep, turnedAway}
+use Rattle.replay.specs.Replay.{Stepped, freshBy, freshStep, turnedAway}
 use Rattle.replay.proofs.LineLaws.{fresh-none, fresh-away, fresh-made, fresh-kept, fresh-taken}
-use borrow.Author.Needs.{needs}
 use Rattle.replay.proofs.answer_fresh.Statement.{statement}
 use Rattle.replay.proofs.answer_fresh.Tie as tie
 

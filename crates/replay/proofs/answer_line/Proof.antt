@@ -1,11 +1,10 @@
 use borrow.Author.Needs.{needs}
-use native.Mathlib.Omega.{arith}
 use mathlib.Core.Bool.{Bool, cond}
 use Rattle.market.specs.Limits.{zones}
 use Rattle.journal_fields.specs.JournalFields.{laid}
 use Rattle.journal_lines.specs.Journal.{lineWords, linePrices}
-use Rattle.replay.specs.Replay.{wordRoom}
-use mathlib.Core.Path.{_≡_, sym, _∙_, ap}
+use Rattle.replay.specs.Replay.{wordRoom, Stepped, freshStep}
+use mathlib.Core.Path.{sym, _∙_, ap}
 use mathlib.Core.List.{List, []}
 use Prim.Native.Nat.{ℕ}
 use lib.ListN.{length}
@@ -13,9 +12,7 @@ use Rattle.text.specs.Put.{putAt}
 use Rattle.fields.proofs.ReadLaws.{starts-fit}
 use Rattle.journal_fresh.specs.FreshLines.{freshSaid}
 use Rattle.journal_lines.specs.Verbs.{freshWord}
-use Rattle.replay.specs.Replay.{Stepped, freshStep}
 use Rattle.replay.proofs.LineLaws.{fresh-journal, fresh-text, fresh-register, line-fresh, line-said}
-use borrow.Author.Needs.{needs}
 use Rattle.replay.proofs.answer_line.Statement.{statement}
 use Rattle.replay.proofs.answer_line.Tie as tie
 

@@ -1,13 +1,11 @@
 use borrow.Author.Needs.{needs}
-use native.Mathlib.Omega.{arith}
-use mathlib.Core.Path.{_≡_, sym, _∙_, ap}
-use mathlib.Core.Bool.{Bool, true, false}
+use mathlib.Core.Path.{sym, _∙_, ap}
+use mathlib.Core.Bool.{Bool}
 use lib.ListN.{length, take}
 use lib.Seq.{length-take-le}
 use borrow.Author.Tests.{not-true, not-false}
 use Rattle.text.specs.Put.{putAt}
 use Rattle.replay.specs.Replay.{Stepped, callStep}
-use borrow.Author.Needs.{needs}
 use Rattle.replay.proofs.answer_ready.Statement.{statement}
 use Rattle.replay.proofs.answer_ready.Tie as tie
 

@@ -1,6 +1,5 @@
 use borrow.Author.Needs.{needs}
-use native.Mathlib.Omega.{arith}
-use mathlib.Core.Path.{_≡_, sym, _∙_, ap}
+use mathlib.Core.Path.{_∙_, ap}
 use lib.ListN.{length}
 use Rattle.text.specs.Put.{putAt}
 use Rattle.journal_fields.specs.JournalFields.{laid}
@@ -8,7 +7,6 @@ use Rattle.journal_lines.specs.Journal.{lineWords, linePrices}
 use Prim.Native.Nat.{ℕ}
 use Rattle.replay.specs.Replay.{Stepped}
 use Rattle.replay.proofs.SaidLaws.{said-away, words-room, prices-room, said-called}
-use borrow.Author.Needs.{needs}
 use Rattle.replay.proofs.answer_said.Statement.{statement}
 use Rattle.replay.proofs.answer_said.Tie as tie
 

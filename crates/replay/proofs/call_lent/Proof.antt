@@ -1,12 +1,8 @@
 use borrow.Author.Needs.{needs}
-use native.Mathlib.Omega.{arith}
 use Rattle.engine.specs.Lent.{Lent}
 use Rattle.engine.specs.Step.{step}
 use Rattle.replay.proofs.LineLaws.{lent-same}
-use mathlib.Core.Path.{_≡_, sym, _∙_, ap, subst}
-use mathlib.Core.List.{List}
-use Prim.Native.Nat.{ℕ}
-use borrow.Author.Needs.{needs}
+use mathlib.Core.Path.{_∙_, ap}
 use Rattle.replay.proofs.call_lent.Statement.{statement}
 use Rattle.replay.proofs.call_lent.Tie as tie
 

@@ -1,7 +1,5 @@
 use borrow.Author.Needs.{needs}
-use native.Mathlib.Omega.{arith}
 use Rattle.replay.proofs.ColumnLaws.{column-none, column-short, column-whole}
-use borrow.Author.Needs.{needs}
 use Rattle.replay.proofs.column.Statement.{statement}
 use Rattle.replay.proofs.column.Tie as tie
 

@@ -1,14 +1,11 @@
 use borrow.Author.Needs.{needs}
 use native.Mathlib.Omega.{arith}
-use mathlib.Core.Path.{sym, _∙_, ap, subst}
-use Prim.Native.Nat.{ℕ, _+_, _≤_}
-use lib.ListN.{drop, length}
+use mathlib.Core.Path.{sym, subst}
+use Prim.Native.Nat.{_≤_}
 use Rattle.fields.specs.declared.Field.{Field}
 use Rattle.fields.specs.Fields.{wordTop}
 use Rattle.journal_fields.proofs.FieldLaws.{number-within}
 use Rattle.journal_lines.proofs.SaidLaws.{hour-same}
-use lib.ListN.{length-drop}
-use borrow.Author.Needs.{needs}
 use Rattle.journal_lines.proofs.heads.hour_line.Statement.{statement}
 use Rattle.journal_lines.proofs.heads.hour_line.Tie as tie
 

@@ -1,8 +1,8 @@
 use borrow.Author.Needs.{needs}
 use native.Mathlib.Omega.{arith}
 use mathlib.Core.Path.{sym, _∙_, ap, subst}
-use Prim.Native.Nat.{ℕ, _+_, _≤_}
-use lib.ListN.{drop, length}
+use Prim.Native.Nat.{_+_, _≤_}
+use lib.ListN.{drop}
 use Rattle.fields.specs.declared.Field.{Field}
 use Rattle.fields.specs.Fields.{wordTop}
 use Rattle.journal_fields.proofs.FieldLaws.{number-within}
@@ -12,7 +12,6 @@ use Rattle.journal_lines.specs.declared.heads.Opening.{Opening}
 use mathlib.Core.Bool.{_&&_}
 use Rattle.journal_fields.specs.JournalFields.{stands}
 use Rattle.journal_lines.specs.Journal.{periodOf}
-use borrow.Author.Needs.{needs}
 use Rattle.journal_lines.proofs.heads.opening_line.Statement.{statement}
 use Rattle.journal_lines.proofs.heads.opening_line.Tie as tie
 

@@ -1,8 +1,7 @@
 use borrow.Author.Needs.{needs}
 use native.Mathlib.Omega.{arith}
 use mathlib.Core.Path.{sym, _∙_, ap, subst}
-use Prim.Native.Nat.{ℕ, _+_, _≤_}
-use lib.ListN.{drop, length}
+use Prim.Native.Nat.{_≤_}
 use Rattle.fields.specs.declared.Field.{Field}
 use Rattle.fields.specs.Fields.{wordTop}
 use Rattle.journal_fields.proofs.FieldLaws.{number-within}
@@ -11,10 +10,9 @@ use mathlib.Core.Bool.{_&&_}
 use Rattle.funding.specs.declared.Funds.{Funds}
 use Rattle.engine.specs.declared.calls.Call.{Call}
 use Rattle.journal_fields.specs.JournalFields.{stands}
-use Rattle.journal_lines.specs.Journal.{whole, fundsOf, accountCall}
+use Rattle.journal_lines.specs.Journal.{fundsOf, accountCall}
 use Rattle.journal_lines.proofs.SaidLaws.{faulty, called, account-same}
 use Rattle.journal_lines.specs.declared.Said.the-variants.{Called}
-use borrow.Author.Needs.{needs}
 use Rattle.journal_lines.proofs.plain.account_line.Statement.{statement}
 use Rattle.journal_lines.proofs.plain.account_line.Tie as tie
 

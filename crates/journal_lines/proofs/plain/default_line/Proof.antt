@@ -1,8 +1,7 @@
 use borrow.Author.Needs.{needs}
 use native.Mathlib.Omega.{arith}
 use mathlib.Core.Path.{sym, _∙_, ap, subst}
-use Prim.Native.Nat.{ℕ, _≤_}
-use lib.ListN.{drop, length}
+use Prim.Native.Nat.{_≤_}
 use Rattle.fields.specs.declared.Field.{Field}
 use Rattle.journal_fields.specs.JournalFields.{stands}
 use Rattle.journal_lines.specs.Journal.{defaultOf, defaultSaid}
@@ -10,8 +9,6 @@ use Rattle.journal_lines.proofs.SaidLaws.{faulty, called, missing, stan
 use Rattle.fields.specs.Fields.{wordTop}
 use Rattle.journal_fields.proofs.FieldLaws.{last-within}
 use Rattle.engine.specs.declared.calls.Call.the-variants as calls
-use Rattle.market.specs.Books.{cents, dayNumber}
-use borrow.Author.Needs.{needs}
 use Rattle.journal_lines.proofs.plain.default_line.Statement.{statement}
 use Rattle.journal_lines.proofs.plain.default_line.Tie as tie
 

@@ -1,8 +1,7 @@
 use borrow.Author.Needs.{needs}
 use native.Mathlib.Omega.{arith}
-use mathlib.Core.Path.{sym, _∙_, ap, subst}
-use Prim.Native.Nat.{ℕ, _+_, _≤_}
-use lib.ListN.{drop, length}
+use mathlib.Core.Path.{sym, _∙_, subst}
+use Prim.Native.Nat.{_≤_}
 use Rattle.fields.specs.declared.Field.{Field}
 use Rattle.fields.specs.Fields.{wordTop}
 use Rattle.journal_fields.proofs.FieldLaws.{number-within}
@@ -12,7 +11,6 @@ use Rattle.journal_fields.specs.JournalFields.{stands}
 use Rattle.journal_lines.proofs.SaidLaws.{faulty, called, pay-same}
 use Rattle.engine.specs.declared.calls.Call.the-variants as calls
 use Rattle.market.specs.Books.{cents}
-use borrow.Author.Needs.{needs}
 use Rattle.journal_lines.proofs.plain.pay_line.Statement.{statement}
 use Rattle.journal_lines.proofs.plain.pay_line.Tie as tie
 

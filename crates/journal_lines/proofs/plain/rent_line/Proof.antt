@@ -1,15 +1,10 @@
 use borrow.Author.Needs.{needs}
-use native.Mathlib.Omega.{arith}
-use mathlib.Core.Path.{sym, _∙_, ap, subst}
-use Prim.Native.Nat.{ℕ, _≤_}
-use lib.ListN.{drop, length}
-use Rattle.fields.specs.declared.Field.{Field}
+use mathlib.Core.Path.{_∙_, ap}
 use Rattle.journal_fields.specs.JournalFields.{stands}
 use Rattle.journal_lines.specs.Journal.{rentOf, rentSaid}
 use Rattle.journal_lines.proofs.SaidLaws.{faulty, called, missing, standing}
 use Rattle.engine.specs.declared.calls.Call.the-variants as calls
-use Rattle.market.specs.Books.{cents, dayNumber}
-use borrow.Author.Needs.{needs}
+use Rattle.market.specs.Books.{cents}
 use Rattle.journal_lines.proofs.plain.rent_line.Statement.{statement}
 use Rattle.journal_lines.proofs.plain.rent_line.Tie as tie
 

@@ -1,12 +1,10 @@
 use borrow.Author.Needs.{needs}
-use native.Mathlib.Omega.{arith}
 use mathlib.Core.Path.{sym, _∙_}
 use Rattle.fields.proofs.ReadLaws.{starts-fit}
 use Rattle.fields.specs.Fields.{startsWith}
 use Rattle.journal_lines.specs.declared.verbs.Verb.the-variants.{Rent, Disburse, Recover, Fresh, Unknown}
 use Rattle.journal_lines.specs.Verbs.{named, rentWord, disburseWord, recoverWord, freshWord, lastVerb}
 use Rattle.journal_lines.proofs.VerbLaws.{first-stands, second-stands, third-stands, fourth-stands, none-stands}
-use borrow.Author.Needs.{needs}
 use Rattle.journal_lines.proofs.verbs.last_verb.Statement.{statement}
 use Rattle.journal_lines.proofs.verbs.last_verb.Tie as tie
 

@@ -1,13 +1,11 @@
 use borrow.Author.Needs.{needs}
 use native.Mathlib.Omega.{arith}
-use mathlib.Core.Path.{_≡_, sym, _∙_, ap}
-use mathlib.Core.List.{List}
+use mathlib.Core.Path.{sym, _∙_, ap}
 use lib.ListN.{length, take, length-take, length-map}
 use Rattle.market.specs.Books.{pathsOf}
 use Rattle.text.specs.Put.{putAt}
 use Rattle.replay.specs.Replay.{offerOf}
 use Rattle.replay.proofs.LineLaws.{text-nothing, text-offers, text-amounts}
-use borrow.Author.Needs.{needs}
 use Rattle.replay.proofs.answers.put_answer.Statement.{statement}
 use Rattle.replay.proofs.answers.put_answer.Tie as tie
 
