@@ -22,7 +22,7 @@ bidsIn Done = 0
 bidsIn (Drawn d) = 0
 bidsIn (Bids n) = n
 
--- "after the slash per path offered, sold in this round, price or 0"
+-- "behind the slash, of each path, offered and sold in this round, and price or 0"
 abbrev pub pathRows : ℕ → List ℕ → List ℕ
 pathRows zero results = []
 pathRows (suc k) results = row words.slashMark (take pathAnswerSize results) ++ rows words.barMark pathAnswerSize k (drop pathAnswerSize results)

@@ -11,7 +11,7 @@ use Rattle.fields.specs.Fields.{space, wordTop, startsWith}
 use Rattle.fields.specs.declared.Field.{Field}
 use Rattle.journal_fields.specs.declared.Price.{Price}
 
--- "numbers over 64 bits" are refused; a price has a sign beside its 63 bits
+-- "Amounts and D have up to 64 bits, prices up to 63 beside their sign"
 abbrev pub wideTop : ℕ
 wideTop = 2 ^ 64 - 1
 

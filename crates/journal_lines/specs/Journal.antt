@@ -148,7 +148,7 @@ payoutSaid cap text =
 
 -- ---- disburse D C ... C, recover D C ... C
 
--- "32 provincial charges, 32 export charges, 32 meter, 32 intertie energies"
+-- "32 provincial charges, 32 export charges, 32 energies at meters, 32 at interties"
 abbrev pub columnWords : ℕ
 columnWords = 4 * bidderLimit
 

@@ -60,7 +60,7 @@ abbrev pub pathText : ℕ → Path → List ℕ
 pathText i p =
     row words.pathMark (i ∷ []) ++ offerText p
 
--- "# bidder I CASH APPLIED LETTER HOLD OWED STEP where not all are 0"
+-- "# bidder I CASH APPLIED LETTER HOLD OWED STEP", "for each bidder that has not 0 in every place"
 abbrev pub blank : Bidder → Bool
 blank x =
     eqb (x .cash .0) 0 && eqb (x .applied .0) 0 && eqb (x .letter .0) 0 && eqb (x .hold .0) 0 && eqb (x .owed .0) 0 && eqb (x .step) 0

@@ -36,7 +36,7 @@ use Rattle.replay.specs.declared.answers.Tell.the-variants as tells
 abbrev pub wordRoom : ℕ
 wordRoom = 32768
 
--- "32 provincial charges, 32 export charges, 32 meter, 32 intertie energies", one column behind another
+-- "32 provincial charges, 32 export charges, 32 energies at meters, 32 at interties", one column behind another
 abbrev pub column : ℕ → List ℕ → List ℕ
 column k list = take bidderLimit (drop (k * bidderLimit) list)
 
@@ -101,7 +101,7 @@ pub record Stepped : Type 0 where
   pub register : List ℕ
   pub text : List ℕ
 
--- "A line that has not this form answers `= refused 40` and changes nothing"
+-- "A line that has not this form is refused with 40 and changes nothing"
 abbrev pub refusedText : List ℕ
 refusedText = replyText (Refused formRefusal) Nothing [] [] 0 []
 
@@ -117,12 +117,12 @@ calledBy call left =
       text = callText call left;
     }
 
--- "so does a call before an answered fresh"
+-- "and so is a call before an answered `fresh`"
 abbrev pub callStep : Bool → Journal → List ℕ → Call → List ℕ → List ℤ → Stepped
 callStep true j register call list prices = calledBy call (leftBy (j .book) register call list prices)
 callStep false j register call list prices = turnedAway j register
 
--- "A second fresh starts anew"; a refused one changes nothing
+-- "A second `fresh` starts anew"; "a refused one changes nothing"
 abbrev pub freshState : Journal → ℕ → Book → Journal
 freshState j zero book = record { ready = true; book = book }
 freshState j (suc n) book = j
