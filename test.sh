@@ -1,9 +1,10 @@
 #!/usr/bin/env bash
-# The tests: the layout of every file, then every crate proved from nothing, every must-fail edit refused, every program run and
+# The tests: the trace's names, the layout of every file, then every crate proved from nothing, every must-fail edit refused, every program run and
 # held to what it must write. The last line is rt's own count.
 # Crates and edits run four at a time, so that no core waits while the longest of two ends.
 set -euo pipefail
 cd "$(dirname "$0")"
 export RT_JOBS="${RT_JOBS:-4}"
+bash trace.sh
 rt fmt --check
 exec rt ci

@@ -1,11 +1,12 @@
 -- Document 01, "Cash held is all cash and applied": the money in the book, and what a call moves of it.
 use mathlib.Core.Path.{_≡_}
 use mathlib.Core.List.{List, [], _∷_}
-use Prim.Native.Nat.{ℕ, _+_}
+use Prim.Native.Nat.{ℕ, zero, suc, _+_}
 use lib.IntN.{ℤ, pos, _+ℤ_, _-ℤ_}
+use lib.ListN.{getD}
+use Rattle.market.specs.Answers.{answerNumber, answerValues}
 use Rattle.market.specs.Books.{heldOf}
 use Rattle.market.specs.declared.answer.Answer.{Answer}
-use Rattle.market.specs.declared.answer.Answer.the-variants.{Refused, Done, Drawn, Bids}
 use Rattle.market.specs.declared.book.Bidder.{Bidder}
 use Rattle.market.specs.declared.book.Book.{Book}
 use Rattle.market.specs.declared.units.Cents.{Cents}
@@ -28,19 +29,18 @@ worth b = pos (cashHeld b) +ℤ b .account .0
 abbrev pub Moved : Book → Book → ℕ → ℕ → Type 0
 Moved before after into out = worth after ≡ worth before +ℤ pos into -ℤ pos out
 
--- an amount that moves only where the call is answered
+-- an amount that moves only where there is no refusal's number
+abbrev pub unlessRefused : ℕ → ℕ → ℕ
+unlessRefused zero amount = amount
+unlessRefused (suc number) amount = 0
+
+-- "A refused call counts for nothing": an amount that moves only where the call is answered
 abbrev pub ifAnswered : Answer → ℕ → ℕ
-ifAnswered (Refused number) amount = 0
-ifAnswered Done amount = amount
-ifAnswered (Drawn draw) amount = amount
-ifAnswered (Bids bids) amount = amount
+ifAnswered answer amount = unlessRefused (answerNumber answer) amount
 
 -- "The answer carries the letter draw": money that the letter's bank pays in
 abbrev pub drawIn : Answer → ℕ
-drawIn (Refused number) = 0
-drawIn Done = 0
-drawIn (Bids bids) = 0
-drawIn (Drawn draw) = draw .0
+drawIn answer = getD (answerValues answer) 0 0
 
 -- the part of a deposit or of a withdrawal that is money: a letter is none
 abbrev pub cashOf : Funds → Cents → ℕ
