@@ -2,3 +2,4 @@
 pub mod Cleared
 pub mod EarningLaws
 pub mod PriceLaws
+pub mod RateLaws

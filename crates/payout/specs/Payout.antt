@@ -38,6 +38,10 @@ abbrev pub hourAt : Bool → List ℤ → Path → Hour
 hourAt true prices path = Failed
 hourAt false prices path = Priced (balance (getD prices (path .zone) (pos 0)))
 
+-- what one MW earns in the hour on a path
+abbrev pub rateOn : Bool → List ℤ → Path → ℕ
+rateOn failed prices path = rate (hourAt failed prices path) (path .direction)
+
 -- the path of a number
 abbrev pub pathOf : Book → ℕ → Path
 pathOf b i = getD (b .paths) i noPath
@@ -50,9 +54,7 @@ paysOn day e =
 -- what an entry earns in the hour
 abbrev pub earned : Book → Day → Bool → List ℤ → Entry → ℕ
 earned b day failed prices e =
-    cond (paysOn day e)
-    (e .quantity .0 * rate (hourAt failed prices (pathOf b (e .path))) (pathOf b (e .path) .direction))
-    0
+    cond (paysOn day e) (e .quantity .0 * rateOn failed prices (pathOf b (e .path))) 0
 
 -- "The sums go to a lent list of 32 amounts": each entry is credited to its bidder
 abbrev pub credited : (Entry → ℕ) → List ℕ → List Entry → List ℕ

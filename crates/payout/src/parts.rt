@@ -6,16 +6,15 @@ use market::book::Path;
 use market::engine::Engine;
 use market::units::Day;
 ghost use mathlib.Core.Path.{_≡_};
-ghost use mathlib.Core.Bool.{true};
-ghost use Prim.Native.Nat.{_+_, _*_, _≤_, _<_};
-ghost use Rattle.market.specs.Books.{credit};
-ghost use Rattle.market.specs.Limits.{pathLimit, bidderLimit, quantityLimit, zonePriceLimit, accountLimit};
-ghost use Rattle.market.specs.Sound.{soundBook};
+ghost use mathlib.Core.Bool.{true, cond};
+ghost use Prim.Native.Nat.{ℕ, _*_, _≤_, _<_};
+ghost use lib.ListN.{length, getD};
+ghost use Rattle.market.specs.Books.{noPath};
+ghost use Rattle.market.specs.Limits.{pathLimit, zoneLimit, quantityLimit, zonePriceLimit, accountLimit};
 ghost use Rattle.register.proofs.Cleared.{Lent};
-ghost use Rattle.register.proofs.EntryLaws.{EntryBounds};
 ghost use Rattle.register.specs.Refusals.{countedEntries};
 ghost use Rattle.sharing.specs.Sharing.{total};
-ghost use Rattle.payout.specs.Payout.{pathOf, paysOn, earned, amountsOf, soundPrices};
+ghost use Rattle.payout.specs.Payout.{rateOn, paysOn, amountsOf, soundPrices};
 
 // The amounts of the bidders, and their sum.
 pub struct Sums {
@@ -23,12 +22,26 @@ pub struct Sums {
     pub total: u64,
 }
 
-fn path_of(book: Book, number: u32) -> Path
-    requires { ⌜ number < pathLimit ⌝ }
-    ensures { λ r. ⌜ r ≡ pathOf book number ⌝ }
+// What one MW earns in the hour on each of the first so many paths.
+fn rates_of(
+    paths: [Path; Engine::PATHS],
+    count: usize,
+    failed: bool,
+    prices: &[i64],
+) -> [u64; Engine::PATHS]
+    requires { ⌜ count ≤ pathLimit ⌝ }
+    requires { ⌜ soundPrices failed (now prices) ≡ true ⌝ }
+    requires { ⌜ ((i : ℕ) → i < count → getD paths i noPath .zone ≤ zoneLimit) ⌝ }
+    ensures { λ r. ⌜ ((i : ℕ) → i < count → getD r i 0 ≡ rateOn failed (now (prices .entry)) (getD paths i noPath)) ⌝ }
 {
-    let at = number as usize;
-    book.paths[at]
+    let mut rates = [0; Engine::PATHS];
+    for i in 0..count {
+        let path = paths[i];
+        let direction = path.direction;
+        let rate = hour::rate_of(hour::hour_at(failed, prices, path), direction);
+        rates[i] = rate;
+    }
+    rates
 }
 
 // Whether an entry is issued and valid on a day.
@@ -41,41 +54,23 @@ fn pays_on(day: Day, entry: Entry) -> bool
     (entry.state == Engine::ISSUED) & (first.0 <= day.0) & (day.0 <= last.0)
 }
 
-// What an entry earns in the hour.
-fn earned_by(book: Book, day: Day, failed: bool, prices: &[i64], entry: Entry) -> u64
-    requires { ⌜ soundBook book ≡ true ⌝ }
-    requires { ⌜ EntryBounds (book .«path_count») entry ⌝ }
-    requires { ⌜ soundPrices failed (now prices) ≡ true ⌝ }
-    ensures { λ r. ⌜ r ≡ earned book day failed (now (prices .entry)) entry ⌝ }
+// What an entry earns in an hour with these rates.
+fn earned_by(day: Day, rates: &[u64], entry: Entry) -> u64
+    requires { ⌜ entry .path < length (now rates) ⌝ }
+    requires { ⌜ entry .quantity .0 ≤ quantityLimit ⌝ }
+    requires { ⌜ getD (now rates) (entry .path) 0 ≤ zonePriceLimit ⌝ }
+    ensures { λ r. ⌜ r ≡ cond (paysOn day entry) (entry .quantity .0 * getD (now (rates .entry)) (entry .path) 0) 0 ⌝ }
     ensures { λ r. ⌜ r ≤ quantityLimit * zonePriceLimit ⌝ }
 {
     if !pays_on(day, entry) {
         return 0;
     }
-    let path = path_of(book, entry.path);
-    let direction = path.direction;
     let quantity = entry.quantity;
-    let rate = hour::rate_of(hour::hour_at(failed, prices, path), direction);
-    (quantity.0 as u64) * rate
+    let path = entry.path as usize;
+    (quantity.0 as u64) * rates[path]
 }
 
-// The sums with what an entry earned, for its bidder.
-fn with_earned(sums: Sums, bidder: u32, cents: u64) -> Sums
-    requires { ⌜ bidder < bidderLimit ⌝ }
-    requires { ⌜ sums .total ≡ total (sums .amounts) ⌝ }
-    requires { ⌜ sums .total + cents ≤ accountLimit ⌝ }
-    ensures { λ r. ⌜ r .amounts ≡ credit (sums .amounts) bidder cents ⌝ }
-    ensures { λ r. ⌜ r .total ≡ sums .total + cents ⌝ }
-{
-    let at = bidder as usize;
-    let mut next = sums;
-    let more = next.amounts[at] + cents;
-    next.amounts[at] = more;
-    next.total = next.total + cents;
-    next
-}
-
-// The amount of each bidder for the hour.
+// The amount of each bidder for the hour, with what one MW earns on each path worked out once.
 pub fn amounts_of(book: Book, words: &[u32], day: Day, failed: bool, prices: &[i64]) -> Sums
     requires { ⌜ Lent book (now words) ⌝ }
     requires { ⌜ soundPrices failed (now prices) ≡ true ⌝ }
@@ -83,15 +78,18 @@ pub fn amounts_of(book: Book, words: &[u32], day: Day, failed: bool, prices: &[i
     ensures { λ r. ⌜ r .total ≡ total (amountsOf book day failed (now (prices .entry)) (countedEntries book (now (words .entry)))) ⌝ }
     ensures { λ r. ⌜ r .total ≤ accountLimit ⌝ }
 {
-    let mut sums = Sums {
-        amounts: [0; Engine::BIDDERS],
-        total: 0,
-    };
+    let paths = book.paths;
+    let rates = rates_of(paths, book.path_count, failed, prices);
+    let mut amounts = [0; Engine::BIDDERS];
+    let mut total: u64 = 0;
     let count = book.entries;
     for i in 0..count {
         let entry = register::read(words, i);
-        let cents = earned_by(book, day, failed, prices, entry);
-        sums = with_earned(sums, entry.bidder, cents);
+        let cents = earned_by(day, &rates, entry);
+        let bidder = entry.bidder as usize;
+        let more = amounts[bidder] + cents;
+        amounts[bidder] = more;
+        total += cents;
     }
-    sums
+    Sums { amounts, total }
 }
