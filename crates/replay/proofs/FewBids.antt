@@ -1,12 +1,13 @@
--- No answer tells of more bids than there is room for.
+-- No answer tells of more bids than there is room for, and none but a round's of any.
 use mathlib.Core.Path.{_≡_, refl}
+use mathlib.Core.Bool.{Bool, true, false, cond}
 use mathlib.Core.List.{List}
-use Prim.Native.Nat.{ℕ, zero, suc, _≤_}
+use Prim.Native.Nat.{ℕ, zero, suc, _*_, _≤_}
 use native.Mathlib.Omega.{arith}
-use lib.ListN.{length}
+use lib.ListN.{length, replicate, length-replicate}
 use Rattle.market.specs.Answers.{firstOf, decided, answered, drawn}
 use Rattle.market.specs.Books.{bidderOf, withBidder, withAccount, withEntries}
-use Rattle.market.specs.Limits.{pathLimit, bidLimit}
+use Rattle.market.specs.Limits.{pathLimit, bidLimit, bidAnswerSize, bidAnswerWords}
 use Rattle.market.specs.declared.answer.Answer.the-variants.{Bids}
 use Rattle.market.specs.declared.answer.Outcome.{Outcome}
 use Rattle.market.specs.declared.book.Book.{Book}
@@ -31,16 +32,17 @@ use Rattle.engine.specs.Step.{step}
 use Rattle.engine.specs.declared.calls.Call.{Call}
 use Rattle.engine.specs.declared.calls.Call.the-variants.{Deposit, Withdraw, Open, Round, Pay, Default, Retire, Rent, Payout, Disburse, Recover}
 use Rattle.journal_answers.specs.Answers.{bidsIn}
+use Rattle.replay.specs.Replay.{isRound, forRound}
 
-few : (b : Book) (n : ℕ) (taken : Outcome) → (n ≡ 0 → bidsIn (taken .answer) ≤ bidLimit) → bidsIn (decided b n taken .answer) ≤ bidLimit
-few b zero taken h = h refl
-few b (suc n) taken h = omega arith
+few : (b : Book) (n : ℕ) (taken : Outcome) (most : ℕ) → (n ≡ 0 → bidsIn (taken .answer) ≤ most) → bidsIn (decided b n taken .answer) ≤ most
+few b zero taken most h = h refl
+few b (suc n) taken most h = omega arith
 
 -- a call that answers nothing but that it is done, or a draw, tells of none
-none : (b : Book) (n : ℕ) (after : Book) → bidsIn (decided b n (answered after) .answer) ≤ bidLimit
-none b n after = few b n (answered after) (λ e. omega arith)
+none : (b : Book) (n : ℕ) (after : Book) → bidsIn (decided b n (answered after) .answer) ≤ 0
+none b n after = few b n (answered after) 0 (λ e. omega arith)
 
-pub answers-few : (b : Book) (words : List ℕ) (call : Call) (l : Lent) → bidsIn (step b words call l .outcome .answer) ≤ bidLimit
+pub answers-few : (b : Book) (words : List ℕ) (call : Call) (l : Lent) → bidsIn (step b words call l .outcome .answer) ≤ cond (isRound call) bidLimit 0
 unfolding deposit withdraw «open» round pay default retire rent payout pools.outcome
 answers-few b words (Deposit i to amount) l =
     none b (firstOf (depositRefusals b i to amount)) (withBidder b i (credited (bidderOf b i) to amount))
@@ -51,12 +53,13 @@ answers-few b words (Open kind period) l =
 answers-few b words Round l =
     few b (firstOf (roundTable b words (l .bids) (l .answers) (l .results) (l .scratch)))
     (record { answer = Bids (length (bidsOf (l .bids))); book = bookAfter b (bidsOf (l .bids)) })
+    bidLimit
     (λ e.
     let early = round-cleared b words (l .bids) (l .answers) (l .results) (l .scratch) e .0 in
     bids-few pathLimit (l .bids) (listed b words (l .bids) (l .answers) (l .results) (l .scratch) early) (early .short))
 answers-few b words (Pay i amount) l = none b (firstOf (payTable b words i amount)) (bookPaid b i)
 answers-few b words (Default i) l =
-    few b (firstOf (defaultTable b words i)) (drawn (drawOf (bidderOf b i)) (bookDefaulted b words i)) (λ e. omega arith)
+    few b (firstOf (defaultTable b words i)) (drawn (drawOf (bidderOf b i)) (bookDefaulted b words i)) 0 (λ e. omega arith)
 answers-few b words (Retire day) l =
     none b (firstOf (retireTable b words day)) (withEntries b (length (entriesLeft b words day)))
 answers-few b words (Rent amount) l = none b (firstOf (rentRefusals b amount)) (withAccount b (accountAfter b amount))
@@ -67,3 +70,11 @@ answers-few b words (Disburse total) l =
     none b (firstOf (pools.refusals Out b total (columnsOf l))) (withAccount b (pools.accountAfter Out b total))
 answers-few b words (Recover total) l =
     none b (firstOf (pools.refusals In b total (columnsOf l))) (withAccount b (pools.accountAfter In b total))
+
+-- so a list for the answers of bids that is as long as the call takes has room for them
+pub answers-fit : (b : Book) (words : List ℕ) (call : Call) (l : Lent) → (bidsIn (step b words call l .outcome .answer) ≤ bidLimit) × (bidsIn (step b words call l .outcome .answer) * bidAnswerSize ≤ length (forRound call bidAnswerWords))
+answers-fit b words call l = go (isRound call) (bidsIn (step b words call l .outcome .answer)) (answers-few b words call l)
+  where
+    go : (t : Bool) (n : ℕ) → n ≤ cond t bidLimit 0 → (n ≤ bidLimit) × (n * bidAnswerSize ≤ length (let l : List ℕ = replicate (cond t bidAnswerWords 0) 0 in l))
+    go true n h = (h, omega (arith, length-replicate {A = ℕ} bidAnswerWords 0))
+    go false n h = (omega arith, omega arith)

@@ -8,13 +8,13 @@ use lib.IntN.{ℤ}
 use lib.ListN.{length, drop, replicate}
 use Rattle.market.specs.Answers.{firstOf, decided, answered}
 use Rattle.market.specs.Fresh.{freshRefusals, freshBook, noBook, fresh}
-use Rattle.market.specs.Limits.{scratchWords, zones}
+use Rattle.market.specs.Limits.{bidderLimit, bidAnswerWords, pathAnswerWords, scratchWords, zones}
 use Rattle.market.specs.declared.book.Book.{Book}
 use Rattle.market.specs.declared.book.Route.{Route}
 use Rattle.market.specs.declared.answer.Outcome.{Outcome}
 use Rattle.market.specs.Books.{pathsOf}
 use Rattle.engine.specs.Lent.{lent}
-use Rattle.engine.specs.Step.{Left}
+use Rattle.engine.specs.Step.{Left, step}
 use Rattle.engine.specs.declared.calls.Call.{Call}
 use Rattle.journal_answers.specs.Answers.{bidsIn, replyText}
 use Rattle.journal_answers.specs.declared.Told.{Told}
@@ -26,10 +26,15 @@ use Rattle.journal_lines.specs.Verbs.{freshWord}
 use Rattle.replay.specs.declared.Journal.{Journal}
 use Rattle.replay.specs.declared.answers.Tell.{Tell}
 use Rattle.replay.specs.declared.answers.Tell.the-variants as tells
-use Rattle.replay.specs.Replay.{column, lentWith, offersOf, tellBy, textBy, callText, Stepped, turnedAway, freshState, freshBy, freshStep, wordRoom, saidStep, isFresh, lineStep}
+use Rattle.replay.specs.Replay.{column, lentWith, isRound, leftBy, offersOf, tellBy, textBy, callText, Stepped, turnedAway, freshState, freshBy, freshStep, wordRoom, saidStep, isFresh, lineStep}
 
-pub lent-same : (list : List ℕ) (prices : List ℤ) (amounts answers results p q r s : List ℕ) → p ≡ column 0 list → q ≡ column 1 list → r ≡ column 2 list → s ≡ column 3 list → lent list list prices p q r s amounts answers results (replicate scratchWords 0) ≡ lentWith list prices amounts answers results
-lent-same list prices amounts answers results p q r s a b c d = rw (a, b, c, d)
+pub lent-same : (list : List ℕ) (prices : List ℤ) (amounts answers results scratch p q r s : List ℕ) → p ≡ column 0 list → q ≡ column 1 list → r ≡ column 2 list → s ≡ column 3 list → lent list list prices p q r s amounts answers results scratch ≡ lentWith list prices amounts answers results scratch
+lent-same list prices amounts answers results scratch p q r s a b c d = rw (a, b, c, d)
+
+-- what a call leaves, its lists as long as it takes them: t is whether it is a round
+pub left-same : (b : Book) (register : List ℕ) (call : Call) (list : List ℕ) (prices : List ℤ) (t : Bool) → isRound call ≡ t → step b register call (lentWith list prices (replicate bidderLimit 0) (replicate (cond t bidAnswerWords 0) 0) (replicate pathAnswerWords 0) (replicate (cond t scratchWords 0) 0)) ≡ leftBy b register call list prices
+left-same b register call list prices t e =
+    ap (λ (x : Bool). step b register call (lentWith list prices (replicate bidderLimit 0) (replicate (cond x bidAnswerWords 0) 0) (replicate pathAnswerWords 0) (replicate (cond x scratchWords 0) 0))) (sym e)
 
 -- a fresh book tells of no bids
 decided-none : (n : ℕ) (b : Book) → bidsIn (decided noBook n (answered b) .answer) ≡ 0

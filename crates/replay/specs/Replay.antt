@@ -40,9 +40,9 @@ wordRoom = 32768
 abbrev pub column : ℕ → List ℕ → List ℕ
 column k list = take bidderLimit (drop (k * bidderLimit) list)
 
--- the line's own lists, lists for what the call answers, and a scratch full of zeros
-abbrev pub lentWith : List ℕ → List ℤ → List ℕ → List ℕ → List ℕ → Lent
-lentWith list prices amounts answers results =
+-- the line's own lists, lists for what the call answers, and a scratch
+abbrev pub lentWith : List ℕ → List ℤ → List ℕ → List ℕ → List ℕ → List ℕ → Lent
+lentWith list prices amounts answers results scratch =
     lent list list prices
     (column 0 list)
     (column 1 list)
@@ -51,13 +51,31 @@ lentWith list prices amounts answers results =
     amounts
     answers
     results
-    (replicate scratchWords 0)
+    scratch
+
+-- whether a call is a round, which alone takes a list for the answers of bids, and a scratch
+abbrev pub isRound : Call → Bool
+isRound (Deposit bidder to amount) = false
+isRound (Withdraw bidder from amount) = false
+isRound (Open kind period) = false
+isRound Round = true
+isRound (Pay bidder amount) = false
+isRound (Default bidder) = false
+isRound (Retire day) = false
+isRound (Rent amount) = false
+isRound (Payout day failed) = false
+isRound (Disburse total) = false
+isRound (Recover total) = false
+
+-- as many zeros as a round is lent, and none for any other call
+abbrev pub forRound : Call → ℕ → List ℕ
+forRound call n = replicate (cond (isRound call) n 0) 0
 
 -- what a call leaves, its lists for answers full of zeros
 abbrev pub leftBy : Book → List ℕ → Call → List ℕ → List ℤ → Left
 leftBy b register call list prices =
     step b register call
-    (lentWith list prices (replicate bidderLimit 0) (replicate bidAnswerWords 0) (replicate pathAnswerWords 0))
+    (lentWith list prices (replicate bidderLimit 0) (forRound call bidAnswerWords) (replicate pathAnswerWords 0) (forRound call scratchWords))
 
 -- ---- What is printed behind a call
 

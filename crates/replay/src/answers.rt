@@ -6,9 +6,9 @@ use market::book::Path;
 use market::engine::Engine;
 ghost use mathlib.Core.Path.{_≡_};
 ghost use mathlib.Core.List.{map};
-ghost use Prim.Native.Nat.{_≤_};
+ghost use Prim.Native.Nat.{_*_, _≤_};
 ghost use lib.ListN.{length, take};
-ghost use Rattle.market.specs.Limits.{bidderLimit, bidLimit, bidAnswerWords, pathAnswerWords, pathLimit};
+ghost use Rattle.market.specs.Limits.{bidderLimit, bidLimit, bidAnswerSize, pathAnswerWords, pathLimit};
 ghost use Rattle.text.specs.Put.{putAt};
 ghost use Rattle.journal_answers.specs.Answers.{bidsIn, replyRoom};
 ghost use Rattle.replay.specs.Replay as rules;
@@ -55,6 +55,36 @@ pub fn tell_of(call: Call) -> Tell
     }
 }
 
+// Whether a call is a round.
+pub fn is_round(call: Call) -> bool
+    ensures { λ r. ⌜ r ≡ rules.isRound call ⌝ }
+{
+    match call {
+        Call::Deposit {
+            bidder: _,
+            to: _,
+            amount: _,
+        } => false,
+        Call::Withdraw {
+            bidder: _,
+            from: _,
+            amount: _,
+        } => false,
+        Call::Open { kind: _, period: _ } => false,
+        Call::Round => true,
+        Call::Pay {
+            bidder: _,
+            amount: _,
+        } => false,
+        Call::Default { bidder: _ } => false,
+        Call::Retire { day: _ } => false,
+        Call::Rent { amount: _ } => false,
+        Call::Payout { day: _, failed: _ } => false,
+        Call::Disburse { total: _ } => false,
+        Call::Recover { total: _ } => false,
+    }
+}
+
 // A number of paths, at most as many as there are slots.
 fn within_slots(count: usize) -> usize
     ensures { λ r. ⌜ r ≡ rules.withinSlots count ⌝ }
@@ -92,9 +122,8 @@ pub fn put_answer(
 ) -> usize
     requires { ⌜ replyRoom ≤ length (now out) ⌝ }
     requires { ⌜ length (now amounts) ≡ bidderLimit ⌝ }
-    requires { ⌜ length (now answers) ≡ bidAnswerWords ⌝ }
     requires { ⌜ length (now results) ≡ pathAnswerWords ⌝ }
-    requires { ⌜ bidsIn (outcome .answer) ≤ bidLimit ⌝ }
+    requires { ⌜ (bidsIn (outcome .answer) ≤ bidLimit) × (bidsIn (outcome .answer) * bidAnswerSize ≤ length (now answers)) ⌝ }
     ensures place { λ r. ⌜ r ≡ length (rules.textBy tell outcome (now (amounts .entry)) (now (answers .entry)) (now (results .entry))) ⌝ }
     ensures bytes { λ r. ⌜ now (out .exit) ≡ putAt (now (out .entry)) 0 (rules.textBy tell outcome (now (amounts .entry)) (now (answers .entry)) (now (results .entry))) ⌝ }
 {

@@ -12,8 +12,8 @@ use market::engine::Engine;
 ghost use mathlib.Core.Path.{_≡_};
 ghost use mathlib.Core.List.{[]};
 ghost use Prim.Native.Nat.{_<_, _≤_};
-ghost use lib.ListN.{length, take};
-ghost use Rattle.market.specs.Limits.{zones};
+ghost use lib.ListN.{length, take, replicate};
+ghost use Rattle.market.specs.Limits.{bidderLimit, bidAnswerWords, pathAnswerWords, zones};
 ghost use Rattle.text.specs.Put.{putAt};
 ghost use Rattle.engine.specs.Step.{step};
 ghost use Rattle.journal_answers.specs.Answers.{replyRoom};
@@ -55,7 +55,7 @@ fn column(list: &[u32], k: usize) -> &[u32]
     &list[from..to]
 }
 
-// A call through the engine, with a scratch of its own.
+// A call through the engine.
 fn call_lent(
     book: Book,
     register: &mut [u32],
@@ -65,14 +65,14 @@ fn call_lent(
     amounts: &mut [u64],
     answers: &mut [u64],
     results: &mut [u64],
+    scratch: &mut [u32],
 ) -> Outcome
-    ensures outcome { λ r. ⌜ r ≡ step book (now (register .entry)) call (rules.lentWith (now (list .entry)) (now (prices .entry)) (now (amounts .entry)) (now (answers .entry)) (now (results .entry))) .outcome ⌝ }
-    ensures register { λ r. ⌜ now (register .exit) ≡ step book (now (register .entry)) call (rules.lentWith (now (list .entry)) (now (prices .entry)) (now (amounts .entry)) (now (answers .entry)) (now (results .entry))) .words ⌝ }
-    ensures amounts { λ r. ⌜ now (amounts .exit) ≡ step book (now (register .entry)) call (rules.lentWith (now (list .entry)) (now (prices .entry)) (now (amounts .entry)) (now (answers .entry)) (now (results .entry))) .amounts ⌝ }
-    ensures answers { λ r. ⌜ now (answers .exit) ≡ step book (now (register .entry)) call (rules.lentWith (now (list .entry)) (now (prices .entry)) (now (amounts .entry)) (now (answers .entry)) (now (results .entry))) .answers ⌝ }
-    ensures results { λ r. ⌜ now (results .exit) ≡ step book (now (register .entry)) call (rules.lentWith (now (list .entry)) (now (prices .entry)) (now (amounts .entry)) (now (answers .entry)) (now (results .entry))) .results ⌝ }
+    ensures outcome { λ r. ⌜ r ≡ step book (now (register .entry)) call (rules.lentWith (now (list .entry)) (now (prices .entry)) (now (amounts .entry)) (now (answers .entry)) (now (results .entry)) (now (scratch .entry))) .outcome ⌝ }
+    ensures register { λ r. ⌜ now (register .exit) ≡ step book (now (register .entry)) call (rules.lentWith (now (list .entry)) (now (prices .entry)) (now (amounts .entry)) (now (answers .entry)) (now (results .entry)) (now (scratch .entry))) .words ⌝ }
+    ensures amounts { λ r. ⌜ now (amounts .exit) ≡ step book (now (register .entry)) call (rules.lentWith (now (list .entry)) (now (prices .entry)) (now (amounts .entry)) (now (answers .entry)) (now (results .entry)) (now (scratch .entry))) .amounts ⌝ }
+    ensures answers { λ r. ⌜ now (answers .exit) ≡ step book (now (register .entry)) call (rules.lentWith (now (list .entry)) (now (prices .entry)) (now (amounts .entry)) (now (answers .entry)) (now (results .entry)) (now (scratch .entry))) .answers ⌝ }
+    ensures results { λ r. ⌜ now (results .exit) ≡ step book (now (register .entry)) call (rules.lentWith (now (list .entry)) (now (prices .entry)) (now (amounts .entry)) (now (answers .entry)) (now (results .entry)) (now (scratch .entry))) .results ⌝ }
 {
-    let mut scratch = [0u32; Engine::SCRATCH_WORDS];
     let provincial = column(list, 0);
     let export = column(list, 1);
     let meters = column(list, 2);
@@ -91,11 +91,54 @@ fn call_lent(
         amounts,
         answers,
         results,
-        &mut scratch,
+        scratch,
     )
 }
 
-// A call, and the line behind it at the front of the buffer.
+// A call with a list for the answers of bids and a scratch, and the line behind it at the front of the buffer.
+fn answer_lent(
+    book: Book,
+    register: &mut [u32],
+    call: Call,
+    list: &[u32],
+    prices: &[i64],
+    answers: &mut [u64],
+    scratch: &mut [u32],
+    out: &mut [u8],
+) -> Replied
+    requires { ⌜ replyRoom ≤ length (now out) ⌝ }
+    requires { ⌜ now answers ≡ rules.forRound call bidAnswerWords ⌝ }
+    ensures journal { λ r. ⌜ r .journal ≡ rules.calledBy call (step book (now (register .entry)) call (rules.lentWith (now (list .entry)) (now (prices .entry)) (replicate bidderLimit 0) (now (answers .entry)) (replicate pathAnswerWords 0) (now (scratch .entry)))) .journal ⌝ }
+    ensures used { λ r. ⌜ r .used ≡ length (rules.calledBy call (step book (now (register .entry)) call (rules.lentWith (now (list .entry)) (now (prices .entry)) (replicate bidderLimit 0) (now (answers .entry)) (replicate pathAnswerWords 0) (now (scratch .entry)))) .text) ⌝ }
+    ensures bytes { λ r. ⌜ now (out .exit) ≡ putAt (now (out .entry)) 0 (rules.calledBy call (step book (now (register .entry)) call (rules.lentWith (now (list .entry)) (now (prices .entry)) (replicate bidderLimit 0) (now (answers .entry)) (replicate pathAnswerWords 0) (now (scratch .entry)))) .text) ⌝ }
+    ensures register { λ r. ⌜ now (register .exit) ≡ rules.calledBy call (step book (now (register .entry)) call (rules.lentWith (now (list .entry)) (now (prices .entry)) (replicate bidderLimit 0) (now (answers .entry)) (replicate pathAnswerWords 0) (now (scratch .entry)))) .register ⌝ }
+{
+    let mut amounts = [0u64; Engine::BIDDERS];
+    let mut paths = [0u64; Engine::PATH_ANSWER_WORDS];
+    let outcome = call_lent(
+        book,
+        register,
+        call,
+        list,
+        prices,
+        &mut amounts,
+        answers,
+        &mut paths,
+        scratch,
+    );
+    let tell = answers::tell_of(call);
+    let used = answers::put_answer(out, tell, outcome, &amounts, answers, &paths);
+    let after = outcome.book;
+    Replied {
+        journal: Journal {
+            ready: true,
+            book: after,
+        },
+        used,
+    }
+}
+
+// A call, and the line behind it at the front of the buffer. Only a round has a list for bids and a scratch, which take time to clear.
 fn answer_call(
     book: Book,
     register: &mut [u32],
@@ -110,29 +153,32 @@ fn answer_call(
     ensures bytes { λ r. ⌜ now (out .exit) ≡ putAt (now (out .entry)) 0 (rules.calledBy call (rules.leftBy book (now (register .entry)) call (now (list .entry)) (now (prices .entry))) .text) ⌝ }
     ensures register { λ r. ⌜ now (register .exit) ≡ rules.calledBy call (rules.leftBy book (now (register .entry)) call (now (list .entry)) (now (prices .entry))) .register ⌝ }
 {
-    let mut amounts = [0u64; Engine::BIDDERS];
-    let mut bids = [0u64; Engine::BID_ANSWER_WORDS];
-    let mut paths = [0u64; Engine::PATH_ANSWER_WORDS];
-    let outcome = call_lent(
+    if answers::is_round(call) {
+        let mut bids = [0u64; Engine::BID_ANSWER_WORDS];
+        let mut scratch = [0u32; Engine::SCRATCH_WORDS];
+        return answer_lent(
+            book,
+            register,
+            call,
+            list,
+            prices,
+            &mut bids,
+            &mut scratch,
+            out,
+        );
+    }
+    let mut no_bids = [0u64; 1];
+    let mut no_scratch = [0u32; 1];
+    answer_lent(
         book,
         register,
         call,
         list,
         prices,
-        &mut amounts,
-        &mut bids,
-        &mut paths,
-    );
-    let tell = answers::tell_of(call);
-    let used = answers::put_answer(out, tell, outcome, &amounts, &bids, &paths);
-    let after = outcome.book;
-    Replied {
-        journal: Journal {
-            ready: true,
-            book: after,
-        },
-        used,
-    }
+        &mut no_bids[..0],
+        &mut no_scratch[..0],
+        out,
+    )
 }
 
 // The line behind a line that has not the form, or a call before there is a book; nothing is changed.

@@ -1,8 +1,8 @@
 use borrow.Author.Needs.{needs}
-use Rattle.engine.specs.Lent.{Lent}
-use Rattle.engine.specs.Step.{step}
-use Rattle.replay.proofs.LineLaws.{lent-same}
 use mathlib.Core.Path.{_∙_, ap}
+use Rattle.engine.specs.Lent.{Lent}
+use Rattle.engine.specs.Step.{Left, step}
+use Rattle.replay.proofs.LineLaws.{lent-same}
 use Rattle.replay.proofs.call_lent.Statement.{statement}
 use Rattle.replay.proofs.call_lent.Tie as tie
 
@@ -17,9 +17,6 @@ column-requires-3 c κs = search needs
 
 column-requires-4 : tie.Need-column-requires-4
 column-requires-4 c κs = search needs
-
-slice-aggregate-call : tie.Need-slice-aggregate-call
-slice-aggregate-call c = search needs
 
 call-requires : tie.Need-call-requires
 call-requires c κs = search needs
@@ -36,12 +33,27 @@ same-length-3 c = search needs
 same-length-4 : tie.Need-same-length-4
 same-length-4 c = search needs
 
+same-length-5 : tie.Need-same-length-5
+same-length-5 c = search needs
+
 returns : tie.Need-returns
 returns c =
-    let a = c .before .before .before .before .before .before .before .before .before .before .before .before .before .before .before .before .before .before .before .before .before .before .before .before .args in
-    let call = c .before .before .before .before .before .before .before .before .before .call in
-    let same = lent-same (a .list .now) (a .prices .now) (a .amounts .now) (a .answers .now) (a .results .now) (c .before .before .before .before .before .before .before .before .before .before .before .before .before .before .before .before .before .before .column .result .now) (c .before .before .before .before .before .before .before .before .before .before .before .before .before .before .before .before .before .column2 .result .now) (c .before .before .before .before .before .before .before .before .before .before .before .before .before .before .before .before .column3 .result .now) (c .before .before .before .before .before .before .before .before .before .before .before .before .before .before .before .column4 .result .now) (c .before .before .before .before .before .before .before .before .before .before .before .before .before .before .before .before .before .before .column .ensures) (c .before .before .before .before .before .before .before .before .before .before .before .before .before .before .before .before .before .column2 .ensures) (c .before .before .before .before .before .before .before .before .before .before .before .before .before .before .before .before .column3 .ensures) (c .before .before .before .before .before .before .before .before .before .before .before .before .before .before .before .column4 .ensures) in
-    (call .ensures .0 ∙ ap (λ (l : Lent). step (a .book) (a .register .now) (a .call) l .outcome) same, (call .ensures .1 .0 ∙ ap (λ (l : Lent). step (a .book) (a .register .now) (a .call) l .words) same, (call .ensures .1 .1 .0 ∙ ap (λ (l : Lent). step (a .book) (a .register .now) (a .call) l .amounts) same, (call .ensures .1 .1 .1 .0 ∙ ap (λ (l : Lent). step (a .book) (a .register .now) (a .call) l .answers) same, call .ensures .1 .1 .1 .1 .0 ∙ ap (λ (l : Lent). step (a .book) (a .register .now) (a .call) l .results) same))))
+    let a = c .before .before .before .before .before .before .before .before .before .before .before .before .before .before .before .before .before .before .before .before .before .before .before .before .before .before .args in
+    let call = c .before .before .before .before .before .before .before .before .before .before .call in
+    let same = lent-same (a .list .now) (a .prices .now) (a .amounts .now) (a .answers .now) (a .results .now) (a .scratch .now) (c .before .before .before .before .before .before .before .before .before .before .before .before .before .before .before .before .before .before .before .column .result .now) (c .before .before .before .before .before .before .before .before .before .before .before .before .before .before .before .before .before .before .column2 .result .now) (c .before .before .before .before .before .before .before .before .before .before .before .before .before .before .before .before .before .column3 .result .now) (c .before .before .before .before .before .before .before .before .before .before .before .before .before .before .before .before .column4 .result .now) (c .before .before .before .before .before .before .before .before .before .before .before .before .before .before .before .before .before .before .before .column .ensures) (c .before .before .before .before .before .before .before .before .before .before .before .before .before .before .before .before .before .before .column2 .ensures) (c .before .before .before .before .before .before .before .before .before .before .before .before .before .before .before .before .before .column3 .ensures) (c .before .before .before .before .before .before .before .before .before .before .before .before .before .before .before .before .column4 .ensures) in
+    let left : Lent → Left = λ (l : Lent). step (a .book) (a .register .now) (a .call) l in (
+      call .ensures .0 ∙ ap (λ (l : Lent). left l .outcome) same,
+      (
+        call .ensures .1 .0 ∙ ap (λ (l : Lent). left l .words) same,
+        (
+          call .ensures .1 .1 .0 ∙ ap (λ (l : Lent). left l .amounts) same,
+          (
+            call .ensures .1 .1 .1 .0 ∙ ap (λ (l : Lent). left l .answers) same,
+            call .ensures .1 .1 .1 .1 .0 ∙ ap (λ (l : Lent). left l .results) same,
+          ),
+        ),
+      ),
+    )
 
 pub call-lent-spec : {M : Type 1} → statement M
 call-lent-spec =
@@ -51,10 +63,10 @@ call-lent-spec =
     column-requires-2
     column-requires-3
     column-requires-4
-    slice-aggregate-call
     call-requires
     same-length
     same-length-2
     same-length-3
     same-length-4
+    same-length-5
     returns)
