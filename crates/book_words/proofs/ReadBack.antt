@@ -197,6 +197,11 @@ pub words-account : (b : Book) (account : ℤ) → bookWords (withAccount b acco
 unfolding bookWords
 words-account b account = refl
 
+-- so whether words stand is the same with any account
+pub stands-with : (words : List ℕ) (account : ℤ) → standsFor words (bookIn words account) ≡ stands words
+unfolding stands standsFor bookIn bookWords
+stands-with words account = refl
+
 -- the words of a book that they can hold stand, wherever they are laid
 pub laid-stands : (b : Book) → FitsBook b → (words : List ℕ) → stands (putAt words 0 (bookWords b)) ≡ true
 unfolding stands standsFor
