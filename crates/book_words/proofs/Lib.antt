@@ -1,0 +1,3 @@
+-- Laws about a book in words.
+pub mod WordLaws
+pub mod ReadBack

@@ -1,0 +1,2 @@
+-- A book laid in words, and read back.
+pub mod BookWords

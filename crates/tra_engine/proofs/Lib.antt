@@ -1,0 +1,2 @@
+-- Laws of the library.
+pub mod LineLaws

@@ -1,0 +1,2 @@
+-- The library's functions, from what is lent to what they leave.
+pub mod Library

@@ -1,0 +1,99 @@
+-- The functions that C and Rust programs link: what each returns, and what it leaves in everything lent to it.
+use mathlib.Core.Bool.{Bool, true, false, cond, not, _||_}
+use mathlib.Core.List.{List, [], _∷_}
+use Prim.Native.Nat.{ℕ, zero, suc}
+use lib.Dec.{eqb, ltb}
+use lib.IntN.{ℤ}
+use lib.ListN.{length}
+use Rattle.market.specs.Answers.{Row, _gives_, firstOf}
+use Rattle.market.specs.Limits.{registerWords}
+use Rattle.market.specs.declared.book.Book.{Book}
+use Rattle.text.specs.Put.{putAt}
+use Rattle.book_words.specs.BookWords.{bookSize, bookWords, bookIn, stands}
+use Rattle.desk.specs.Desk.{answerTo, bufferAfter}
+use Rattle.desk.specs.declared.Reply.{Reply}
+use Rattle.desk.specs.declared.Reply.the-variants.{Written, Refused}
+use Rattle.journal_answers.specs.Answers.{replyRoom}
+use Rattle.replay.specs.Replay.{Stepped, wordRoom, lineStep, ownWords}
+use Rattle.replay.specs.declared.Journal.{Journal}
+
+-- ---- A sheet
+
+-- 0, or the refusal's number
+abbrev pub replyNumber : Reply → ℕ
+replyNumber (Written count) = 0
+replyNumber (Refused number) = number
+
+-- the count of bytes written, and where there are none the count that was there
+abbrev pub replyCount : Reply → ℕ → ℕ
+replyCount (Written count) before = count
+replyCount (Refused number) before = before
+
+-- ---- A line of a journal
+
+-- what a program keeps and lends for its lines: the book's words, the account, the register, room for a line's own words, a buffer for what is
+-- printed, and the count of bytes printed
+pub record Memory : Type 0 where
+  pub book : List ℕ
+  pub account : ℤ
+  pub register : List ℕ
+  pub room : List ℕ
+  pub out : List ℕ
+  pub used : ℕ
+
+-- the number that is returned, and the memory after it
+pub record Returned : Type 0 where
+  pub number : ℕ
+  pub memory : Memory
+
+abbrev pub lent : List ℕ → ℤ → List ℕ → List ℕ → List ℕ → ℕ → Memory
+lent book account register room out used =
+    record { book = book; account = account; register = register; room = room; out = out; used = used }
+
+-- one of the four buffers, the book's words, the register, the room and the buffer for what is printed, is shorter than stated
+abbrev pub short : List ℕ → List ℕ → List ℕ → List ℕ → Bool
+short book register room out =
+    ltb (length book) bookSize
+    || (ltb (length register) registerWords || (ltb (length room) wordRoom || ltb (length out) replyRoom))
+
+-- 1 a lent buffer shorter than stated; 2 words that no book is laid in
+abbrev pub lineRefusals : Memory → List Row
+lineRefusals m =
+    (short (m .book) (m .register) (m .room) (m .out) gives 1)
+    ∷ (not (stands (m .book)) gives 2)
+    ∷ []
+
+-- docs/JOURNAL.md, "A line has up to 65,536 bytes before its byte 10. A line that has not this form is refused with 40": a longer one is taken as
+-- the empty line, which has not the form either
+abbrev pub lineBytes : ℕ
+lineBytes = 65536
+
+abbrev pub taken : List ℕ → List ℕ
+taken line = cond (ltb lineBytes (length line)) [] line
+
+-- the journal's state besides the register: a fresh book was answered where the book has a path
+abbrev pub journalOf : Book → Journal
+journalOf b = record { ready = not (eqb (b .«path_count») 0); book = b }
+
+-- a line that was run: the state after it, its own words in the room, and what is printed at the front of the buffer
+abbrev pub leftBy : Memory → List ℕ → Stepped → Memory
+leftBy m line step =
+    record {
+      book = putAt (m .book) 0 (bookWords (step .journal .book));
+      account = step .journal .book .account .0;
+      register = step .register;
+      room = putAt (m .room) 0 (ownWords line);
+      out = putAt (m .out) 0 (step .text);
+      used = length (step .text);
+    }
+
+abbrev pub run : Memory → List ℕ → Memory
+run m line = leftBy m line (lineStep (journalOf (bookIn (m .book) (m .account))) (m .register) line)
+
+-- a refusal leaves everything as it was
+abbrev pub returnedBy : Memory → ℕ → Memory → Returned
+returnedBy before zero after = record { number = 0; memory = after }
+returnedBy before (suc n) after = record { number = suc n; memory = before }
+
+unfoldable pub lineOn : Memory → List ℕ → Returned
+lineOn m line = returnedBy m (firstOf (lineRefusals m)) (run m (taken line))
