@@ -1,10 +1,15 @@
 #!/usr/bin/env bash
 # The tests: the trace's names, the layout of every file, then every crate proved from nothing, every must-fail edit refused, every program run and
-# held to what it must write. The last line is rt's own count.
+# held to what it must write, and last the static library from outside, beside a second engine. The last line is rt's own count, said again.
 # Crates and edits run four at a time, so that no core waits while the longest of two ends.
 set -euo pipefail
 cd "$(dirname "$0")"
 export RT_JOBS="${RT_JOBS:-4}"
 bash trace.sh
 rt fmt --check
-exec rt ci
+said=$(mktemp)
+trap 'rm -f "$said"' EXIT
+rt ci | tee "$said"
+# What is linked was proved above, so it is built here without being proved again.
+bash bench/run.sh
+tail -n 1 "$said"
