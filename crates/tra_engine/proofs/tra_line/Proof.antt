@@ -74,8 +74,8 @@ taken-requires c κs = search needs
 
 run-requires : tie.Need-run-requires
 run-requires c κs =
-    let long = (let a = c .before .before .before .before .before .before .before .before .before .before .before .before .before .before .before .before .before .before .before .before .before .before .before .before .before .args in
-    enough (a .book .now) (a .register .now) (a .room .now) (a .out .now) (sym (c .before .before .before .before .before .before .before .before .before .before .before .before .before .before .before .short .ensures) ∙ c .before .before .before .before .before .before .before .before .before .before .before .before .before .before .if1 .left)) in
+    let a = c .before .before .before .before .before .before .before .before .before .before .before .before .before .before .before .before .before .before .before .before .before .before .before .before .before .args in
+    let long = enough (a .book .now) (a .register .now) (a .room .now) (a .out .now) (sym (c .before .before .before .before .before .before .before .before .before .before .before .before .before .before .before .short .ensures) ∙ c .before .before .before .before .before .before .before .before .before .before .before .before .before .before .if1 .left) in
     (long .words, (long .own, long .text))
 
 same-length-9 : tie.Need-same-length-9
