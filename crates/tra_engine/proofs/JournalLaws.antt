@@ -49,11 +49,11 @@ use Rattle.journal_lines.specs.declared.Said.{Said}
 use Rattle.journal_lines.specs.declared.Said.the-variants.{Faulty, Called}
 use Rattle.replay.specs.Replay.{Stepped, wordRoom, turnedAway, callStep, freshState, freshBy, freshStep, saidStep, isFresh, lineStep}
 use Rattle.replay.specs.declared.Journal.{Journal}
-use Rattle.book_words.specs.BookWords.{bookSize, bookWords, bookIn, stands}
+use Rattle.book_words.specs.BookWords.{bookSize, bookWords, bookIn, stands, FitsBook}
 use Rattle.book_words.proofs.WordLaws.{book-length}
 use Rattle.book_words.proofs.ReadBack.{read-back, laid-stands, stands-laid, zeros-read, zeros-stand}
 use Rattle.journal_answers.specs.Answers.{replyRoom}
-use Rattle.tra_engine.specs.Library.{Memory, Returned, short, lineBytes, taken, journalOf, run, lineOn, Kept, Given, memoryOf, keptIn, linesOn, State, stateAfter, linesBy, Sized, AllSized}
+use Rattle.tra_engine.specs.Library.{Memory, Returned, short, lineBytes, taken, journalOf, HeldIn, stepOn, run, lineOn, Kept, Given, memoryOf, keptIn, linesOn, State, stateAfter, linesBy, Sized, AllSized}
 use Rattle.tra_engine.proofs.LineLaws.{line-run}
 
 -- ---- A line that changes nothing
@@ -148,25 +148,35 @@ module _ (j : Journal) (register : List ℕ) (h : Ready j) where
       go true = of-fresh (freshSaid (drop (length freshWord) line)) (freshSaid (drop (length freshWord) line) .stands)
       go false = of-said (lineSaid wordRoom zones line) (lineWords wordRoom line) (linePrices zones line)
 
+ready-of : (j : Journal) → Ready j → journalOf (j .book) ≡ j
+ready-of j h = λ i. record { ready = h' i; book = j .book }
+  where
+    h' : not (eqb (j .book .«path_count») 0) ≡ j .ready
+    h' = sym h
+
+-- after a line whose book fits its fields the words hold the journal's state
+pub line-held : (m : Memory) (line : List ℕ) → FitsBook (stepOn m line .journal .book) → HeldIn (run m line .book) (run m line .account) (stepOn m line .journal)
+line-held m line fits =
+    let j = stepOn m line .journal in
+    record {
+      stood = laid-stands (j .book) fits (m .book);
+      read =
+          ap journalOf (read-back (j .book) fits (m .book))
+          ∙ ready-of j (line-ready (journalOf (bookIn (m .book) (m .account))) (m .register) refl line);
+    }
+
 -- ---- Lines one after another
 
--- what a program keeps holds a journal's state
+-- what a program keeps holds the state of a journal and its register
 pub record Holds (k : Kept) (s : State) : Type 0 where
   pub words : bookSize ≤ length (k .book)
-  pub stood : stands (k .book) ≡ true
-  pub read : journalOf (bookIn (k .book) (k .account)) ≡ s .journal
+  pub state : HeldIn (k .book) (k .account) (s .journal)
   pub entries : k .register ≡ s .register
 
 none-short : (book register room out : List ℕ) → bookSize ≤ length book → registerWords ≤ length register → wordRoom ≤ length room → replyRoom ≤ length out → short book register room out ≡ false
 none-short book register room out p q r t =
     ap₂ _||_ (le-ltb (length book) bookSize p)
     (ap₂ _||_ (le-ltb (length register) registerWords q) (ap₂ _||_ (le-ltb (length room) wordRoom r) (le-ltb (length out) replyRoom t)))
-
-ready-of : (j : Journal) → Ready j → journalOf (j .book) ≡ j
-ready-of j h = λ i. record { ready = h' i; book = j .book }
-  where
-    h' : not (eqb (j .book .«path_count») 0) ≡ j .ready
-    h' = sym h
 
 module _ (k : Kept) (s : State) (g : Given) (holds : Holds k s) (sized : Sized s g) where
   abbrev now : Stepped
@@ -176,41 +186,32 @@ module _ (k : Kept) (s : State) (g : Given) (holds : Holds k s) (sized : Sized s
   after = run (memoryOf k g) (taken (g .line))
 
   by-rules : lineStep (journalOf (bookIn (k .book) (k .account))) (k .register) (taken (g .line)) ≡ now
-  by-rules = ap₂ (λ (j : Journal) (r : List ℕ). lineStep j r (taken (g .line))) (holds .read) (holds .entries)
+  by-rules = ap₂ (λ (j : Journal) (r : List ℕ). lineStep j r (taken (g .line))) (holds .state .read) (holds .entries)
 
   -- the line is answered
   pub line-answered : _≡_ {A = Returned} (record { number = 0; memory = after }) (lineOn (memoryOf k g) (g .line))
   line-answered =
       line-run (memoryOf k g) (g .line)
       (none-short (k .book) (k .register) (g .room) (g .out) (holds .words) (subst (λ (r : List ℕ). registerWords ≤ length r) (sym (holds .entries)) (sized .register)) (sized .room) (sized .out))
-      (holds .stood)
-
-  book-is : after .book ≡ putAt (k .book) 0 (bookWords (now .journal .book))
-  book-is = ap (λ (x : Stepped). putAt (k .book) 0 (bookWords (x .journal .book))) by-rules
-
-  ready : Ready (s .journal)
-  ready = subst Ready (holds .read) refl
+      (holds .state .stood)
 
   -- and what is kept holds the journal's state after it
   pub line-holds : Holds (keptIn after) (stateAfter now)
   line-holds =
-      let fits = sized .book in
+      let m = memoryOf k g in
+      let fits = subst (λ (x : Stepped). FitsBook (x .journal .book)) (sym by-rules) (sized .book) in
+      let own = bookWords (stepOn m (taken (g .line)) .journal .book) in
+      let long = book-length (stepOn m (taken (g .line)) .journal .book) (fits .paths) (fits .bidders) in
       record {
-        words =
-            let long = put-length (k .book) 0 (bookWords (now .journal .book)) (omega (arith, holds .words, book-length (now .journal .book) (fits .paths) (fits .bidders))) in
-            omega (arith, holds .words, ap length book-is, long);
-        stood = ap stands book-is ∙ laid-stands (now .journal .book) fits (k .book);
-        read =
-            ap₂ (λ (w : List ℕ) (z : ℤ). journalOf (bookIn w z)) book-is (ap (λ (x : Stepped). x .journal .book .account .0) by-rules)
-            ∙ ap journalOf (read-back (now .journal .book) fits (k .book))
-            ∙ ready-of (now .journal) (line-ready (s .journal) (s .register) ready (taken (g .line)));
+        words = omega (arith, holds .words, put-length (k .book) 0 own (omega (arith, holds .words, long)));
+        state = subst (λ (x : Stepped). HeldIn (after .book) (after .account) (x .journal)) by-rules (line-held m (taken (g .line)) fits);
         entries = ap (λ (x : Stepped). x .register) by-rules;
       }
 
 -- a program starts with zeros, and with any register
 pub start-holds : (register : List ℕ) → Holds (record { book = zeros bookSize; account = pos 0; register = register }) (record { journal = record { ready = false; book = noBook }; register = register })
 unfolding noBook
-start-holds register = record { words = lit≤ tt; stood = zeros-stand; read = ap journalOf zeros-read; entries = refl }
+start-holds register = record { words = lit≤ tt; state = record { stood = zeros-stand; read = ap journalOf zeros-read }; entries = refl }
 
 -- what is kept after lines holds the state that the journal's own rules give
 pub lines-hold : (k : Kept) (s : State) (gs : List Given) → Holds k s → AllSized s gs → Holds (linesOn k gs) (linesBy s gs)

@@ -1,5 +1,6 @@
 -- The functions that C and Rust programs link: what each returns, and what it leaves in everything lent to it.
-use mathlib.Core.Bool.{Bool, cond, not, _||_}
+use mathlib.Core.Path.{_≡_}
+use mathlib.Core.Bool.{Bool, true, cond, not, _||_}
 use mathlib.Core.List.{List, [], _∷_}
 use Prim.Native.Nat.{ℕ, zero, suc, _≤_}
 use lib.Dec.{eqb, ltb}
@@ -74,6 +75,15 @@ taken line = cond (ltb lineBytes (length line)) [] line
 abbrev pub journalOf : Book → Journal
 journalOf b = record { ready = not (eqb (b .«path_count») 0); book = b }
 
+-- words hold a journal's state: they stand, and it is the state that they are read as
+pub record HeldIn (book : List ℕ) (account : ℤ) (j : Journal) : Type 0 where
+  pub stood : stands book ≡ true
+  pub read : journalOf (bookIn book account) ≡ j
+
+-- a line, by the journal's own rules, on the state in the memory
+abbrev pub stepOn : Memory → List ℕ → Stepped
+stepOn m line = lineStep (journalOf (bookIn (m .book) (m .account))) (m .register) line
+
 -- a line that was run: the state after it, its own words in the room, and what is printed at the front of the buffer
 abbrev pub leftBy : Memory → List ℕ → Stepped → Memory
 leftBy m line step =
@@ -87,7 +97,7 @@ leftBy m line step =
     }
 
 abbrev pub run : Memory → List ℕ → Memory
-run m line = leftBy m line (lineStep (journalOf (bookIn (m .book) (m .account))) (m .register) line)
+run m line = leftBy m line (stepOn m line)
 
 -- a refusal leaves everything as it was
 abbrev pub returnedBy : Memory → ℕ → Memory → Returned
