@@ -149,10 +149,7 @@ module _ (j : Journal) (register : List ℕ) (h : Ready j) where
       go false = of-said (lineSaid wordRoom zones line) (lineWords wordRoom line) (linePrices zones line)
 
 ready-of : (j : Journal) → Ready j → journalOf (j .book) ≡ j
-ready-of j h = λ i. record { ready = h' i; book = j .book }
-  where
-    h' : not (eqb (j .book .«path_count») 0) ≡ j .ready
-    h' = sym h
+ready-of j h = λ i. record { ready = sym h i; book = j .book }
 
 -- after a line whose book fits its fields the words hold the journal's state
 pub line-held : (m : Memory) (line : List ℕ) → FitsBook (stepOn m line .journal .book) → HeldIn (run m line .book) (run m line .account) (stepOn m line .journal)
