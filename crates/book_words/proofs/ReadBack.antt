@@ -1,6 +1,6 @@
 -- A book laid in words is read back; the words of such a book stand; and words that stand are those of the book that they are read as.
 use mathlib.Core.Path.{_≡_, refl, sym, _∙_, ap, ap₂}
-use mathlib.Core.Bool.{Bool, true, false, _&&_, false≢true}
+use mathlib.Core.Bool.{true, false, _&&_, false≢true}
 use mathlib.Core.List.{List, [], _∷_, _++_, append-assoc}
 use Prim.Native.Nat.{ℕ, zero, suc, _+_, _*_, _^_, _≤_, _<_}
 use native.Mathlib.Omega.{arith}
@@ -15,13 +15,11 @@ use Rattle.market.proofs.Tests.{left-true, right-true}
 use Rattle.market.specs.Books.{cents, megawatts, dayNumber, noPath, noBidder, withAccount}
 use Rattle.market.specs.Fresh.{noBook}
 use Rattle.market.specs.Limits.{pathLimit, bidderLimit}
-use Rattle.market.specs.declared.book.Bidder.{Bidder}
 use Rattle.market.specs.declared.book.Book.{Book}
 use Rattle.market.specs.declared.book.Direction.{Direction}
 use Rattle.market.specs.declared.book.Direction.the-variants.{Export, Import}
 use Rattle.market.specs.declared.book.Kind.{Kind}
 use Rattle.market.specs.declared.book.Kind.the-variants.{Short, Long}
-use Rattle.market.specs.declared.book.Path.{Path}
 use Rattle.market.specs.declared.book.Stage.{Stage}
 use Rattle.market.specs.declared.book.Stage.the-variants.{Idle, Open}
 use Rattle.text.specs.Put.{putAt}

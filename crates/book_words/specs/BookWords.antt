@@ -171,9 +171,12 @@ fitsPath p = fits32 (p .zone) && (fits32 (p .offer .0) && fits32 (p .sold .0))
 abbrev pub fitsBidder : Bidder → Bool
 fitsBidder x = fits32 (x .step)
 
+abbrev pub fitsAuction : ℕ → ℕ → ℕ → Bool
+fitsAuction round first last = fits32 round && (fits32 first && fits32 last)
+
 abbrev pub fitsStage : Stage → Bool
 fitsStage Idle = true
-fitsStage (Open kind round period) = fits32 round && (fits32 (period .first .0) && fits32 (period .last .0))
+fitsStage (Open kind round period) = fitsAuction round (period .first .0) (period .last .0)
 
 pub record FitsBook (b : Book) : Type 0 where
   pub paths : length (b .paths) ≡ pathLimit

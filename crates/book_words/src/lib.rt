@@ -13,8 +13,10 @@ use market::units::Cents;
 use market::units::Day;
 use market::units::Megawatts;
 ghost use mathlib.Core.Path.{_≡_};
+ghost use mathlib.Core.Bool.{true};
 ghost use Prim.Native.Nat.{_+_, _≤_};
 ghost use lib.ListN.{length};
+ghost use Rattle.market.specs.Books.{every};
 ghost use Rattle.market.specs.Limits.{pathLimit, bidderLimit};
 ghost use Rattle.text.specs.Put.{putAt};
 ghost use Rattle.book_words.specs.BookWords as rules;
@@ -166,7 +168,8 @@ fn kind_number(kind: Kind) -> u64
 // A path's words, from a place on.
 fn lay_path(words: &mut [u64], at: usize, path: Path)
     requires { ⌜ at + rules.pathSize ≤ length (now words) ⌝ }
-    ensures { λ r. ⌜ now (words .exit) ≡ putAt (now (words .entry)) at (rules.pathWords path) ⌝ }
+    ensures words { λ r. ⌜ now (words .exit) ≡ putAt (now (words .entry)) at (rules.pathWords path) ⌝ }
+    ensures fits { λ r. ⌜ rules.fitsPath path ≡ true ⌝ }
 {
     let direction = path.direction;
     let offer = path.offer;
@@ -180,7 +183,8 @@ fn lay_path(words: &mut [u64], at: usize, path: Path)
 // A bidder's words, from a place on.
 fn lay_bidder(words: &mut [u64], at: usize, bidder: Bidder)
     requires { ⌜ at + rules.bidderSize ≤ length (now words) ⌝ }
-    ensures { λ r. ⌜ now (words .exit) ≡ putAt (now (words .entry)) at (rules.bidderWords bidder) ⌝ }
+    ensures words { λ r. ⌜ now (words .exit) ≡ putAt (now (words .entry)) at (rules.bidderWords bidder) ⌝ }
+    ensures fits { λ r. ⌜ rules.fitsBidder bidder ≡ true ⌝ }
 {
     let cash = bidder.cash;
     let applied = bidder.applied;
@@ -198,7 +202,8 @@ fn lay_bidder(words: &mut [u64], at: usize, bidder: Bidder)
 // Five words from place 2 on, those of a stage.
 fn lay_five(words: &mut [u64], stage: u64, kind: u64, round: u32, first: Day, last: Day)
     requires { ⌜ rules.frontSize ≤ length (now words) ⌝ }
-    ensures { λ r. ⌜ now (words .exit) ≡ putAt (now (words .entry)) 2 (rules.five stage kind round (first .0) (last .0)) ⌝ }
+    ensures words { λ r. ⌜ now (words .exit) ≡ putAt (now (words .entry)) 2 (rules.five stage kind round (first .0) (last .0)) ⌝ }
+    ensures fits { λ r. ⌜ rules.fitsAuction round (first .0) (last .0) ≡ true ⌝ }
 {
     words[2] = stage;
     words[3] = kind;
@@ -210,7 +215,8 @@ fn lay_five(words: &mut [u64], stage: u64, kind: u64, round: u32, first: Day, la
 // The words of the stage.
 fn lay_stage(words: &mut [u64], stage: Stage)
     requires { ⌜ rules.frontSize ≤ length (now words) ⌝ }
-    ensures { λ r. ⌜ now (words .exit) ≡ putAt (now (words .entry)) 2 (rules.stageWords stage) ⌝ }
+    ensures words { λ r. ⌜ now (words .exit) ≡ putAt (now (words .entry)) 2 (rules.stageWords stage) ⌝ }
+    ensures fits { λ r. ⌜ rules.fitsStage stage ≡ true ⌝ }
 {
     match stage {
         Stage::Idle => lay_five(words, 0, 0, 0, Day(0), Day(0)),
@@ -230,6 +236,7 @@ fn lay_paths(words: &mut [u64], paths: [Path; Engine::PATHS])
     requires { ⌜ rules.bookSize ≤ length (now words) ⌝ }
     ensures words { λ r. ⌜ now (words .exit) ≡ putAt (now (words .entry)) rules.frontSize (rules.each rules.pathWords paths) ⌝ }
     ensures count { λ r. ⌜ length paths ≡ pathLimit ⌝ }
+    ensures fits { λ r. ⌜ every rules.fitsPath paths ≡ true ⌝ }
 {
     for i in 0..Engine::PATHS {
         let path = paths[i];
@@ -241,6 +248,7 @@ fn lay_bidders(words: &mut [u64], bidders: [Bidder; Engine::BIDDERS])
     requires { ⌜ rules.bookSize ≤ length (now words) ⌝ }
     ensures words { λ r. ⌜ now (words .exit) ≡ putAt (now (words .entry)) rules.biddersFrom (rules.each rules.bidderWords bidders) ⌝ }
     ensures count { λ r. ⌜ length bidders ≡ bidderLimit ⌝ }
+    ensures fits { λ r. ⌜ every rules.fitsBidder bidders ≡ true ⌝ }
 {
     for i in 0..Engine::BIDDERS {
         let bidder = bidders[i];
@@ -248,11 +256,11 @@ fn lay_bidders(words: &mut [u64], bidders: [Bidder; Engine::BIDDERS])
     }
 }
 
-// A book's words, at the front of those lent. A book's arrays always have the same lengths, and so they are always as many.
+// A book's words, at the front of those lent. Every book fits its fields, and so is read back from its words.
 pub fn lay_book(words: &mut [u64], book: Book)
     requires { ⌜ rules.bookSize ≤ length (now words) ⌝ }
     ensures words { λ r. ⌜ now (words .exit) ≡ putAt (now (words .entry)) 0 (rules.bookWords book) ⌝ }
-    ensures count { λ r. ⌜ length (rules.bookWords book) ≡ rules.bookSize ⌝ }
+    ensures fits { λ r. ⌜ rules.FitsBook book ⌝ }
 {
     let stage = book.stage;
     let paths = book.paths;

@@ -1,2 +1,3 @@
 -- Laws of the library.
 pub mod LineLaws
+pub mod JournalLaws

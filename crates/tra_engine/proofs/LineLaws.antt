@@ -1,8 +1,8 @@
 -- Laws about a line on the memory that a program keeps.
 use mathlib.Core.Path.{_≡_, refl, sym, _∙_, ap}
-use mathlib.Core.Bool.{Bool, true, false, not, _||_, false≢true}
-use mathlib.Core.List.{List, [], _++_, append-assoc}
-use Prim.Native.Nat.{ℕ, zero, suc, _+_, _≤_}
+use mathlib.Core.Bool.{Bool, true, false, _||_, false≢true}
+use mathlib.Core.List.{List, _++_, append-assoc}
+use Prim.Native.Nat.{ℕ, _+_, _≤_}
 use native.Mathlib.Nat.{zero-add}
 use native.Mathlib.Omega.{arith}
 use lib.Dec.{ltb}
@@ -10,13 +10,12 @@ use lib.ListN.{length, take, drop, length-append, length-drop, take-append-drop}
 use lib.Seq.{drop-append-le, length-take-le}
 use borrow.Author.Tests.{ltb-false}
 use Rattle.market.specs.Limits.{registerWords}
-use Rattle.market.specs.Answers.{firstOf}
 use Rattle.text.specs.Put.{putAt}
 use Rattle.book_words.specs.BookWords.{bookSize, stands}
 use Rattle.journal_answers.specs.Answers.{replyRoom}
 use Rattle.journal_fields.specs.JournalFields.{laid}
 use Rattle.replay.specs.Replay.{wordRoom}
-use Rattle.tra_engine.specs.Library.{Memory, Returned, short, lineRefusals, taken, run, returnedBy, lineOn}
+use Rattle.tra_engine.specs.Library.{Memory, Returned, short, taken, run, lineOn}
 
 -- ---- Room
 

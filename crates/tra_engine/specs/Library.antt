@@ -1,7 +1,8 @@
 -- The functions that C and Rust programs link: what each returns, and what it leaves in everything lent to it.
-use mathlib.Core.Bool.{Bool, true, false, cond, not, _||_}
+use mathlib.Core.Path.{_≡_}
+use mathlib.Core.Bool.{Bool, true, cond, not, _||_}
 use mathlib.Core.List.{List, [], _∷_}
-use Prim.Native.Nat.{ℕ, zero, suc}
+use Prim.Native.Nat.{ℕ, zero, suc, _≤_}
 use lib.Dec.{eqb, ltb}
 use lib.IntN.{ℤ}
 use lib.ListN.{length}
@@ -9,8 +10,7 @@ use Rattle.market.specs.Answers.{Row, _gives_, firstOf}
 use Rattle.market.specs.Limits.{registerWords}
 use Rattle.market.specs.declared.book.Book.{Book}
 use Rattle.text.specs.Put.{putAt}
-use Rattle.book_words.specs.BookWords.{bookSize, bookWords, bookIn, stands}
-use Rattle.desk.specs.Desk.{answerTo, bufferAfter}
+use Rattle.book_words.specs.BookWords.{bookSize, bookWords, bookIn, stands, FitsBook}
 use Rattle.desk.specs.declared.Reply.{Reply}
 use Rattle.desk.specs.declared.Reply.the-variants.{Written, Refused}
 use Rattle.journal_answers.specs.Answers.{replyRoom}
@@ -75,6 +75,15 @@ taken line = cond (ltb lineBytes (length line)) [] line
 abbrev pub journalOf : Book → Journal
 journalOf b = record { ready = not (eqb (b .«path_count») 0); book = b }
 
+-- words hold a journal's state: they stand, and it is the state that they are read as
+pub record HeldIn (book : List ℕ) (account : ℤ) (j : Journal) : Type 0 where
+  pub stood : stands book ≡ true
+  pub read : journalOf (bookIn book account) ≡ j
+
+-- a line, by the journal's own rules, on the state in the memory
+abbrev pub stepOn : Memory → List ℕ → Stepped
+stepOn m line = lineStep (journalOf (bookIn (m .book) (m .account))) (m .register) line
+
 -- a line that was run: the state after it, its own words in the room, and what is printed at the front of the buffer
 abbrev pub leftBy : Memory → List ℕ → Stepped → Memory
 leftBy m line step =
@@ -88,7 +97,7 @@ leftBy m line step =
     }
 
 abbrev pub run : Memory → List ℕ → Memory
-run m line = leftBy m line (lineStep (journalOf (bookIn (m .book) (m .account))) (m .register) line)
+run m line = leftBy m line (stepOn m line)
 
 -- a refusal leaves everything as it was
 abbrev pub returnedBy : Memory → ℕ → Memory → Returned
@@ -97,3 +106,52 @@ returnedBy before (suc n) after = record { number = suc n; memory = before }
 
 unfoldable pub lineOn : Memory → List ℕ → Returned
 lineOn m line = returnedBy m (firstOf (lineRefusals m)) (run m (taken line))
+
+-- ---- Lines one after another
+
+-- what a program keeps from line to line
+pub record Kept : Type 0 where
+  pub book : List ℕ
+  pub account : ℤ
+  pub register : List ℕ
+
+-- a line, and what else is lent for it alone, with any contents
+pub record Given : Type 0 where
+  pub line : List ℕ
+  pub room : List ℕ
+  pub out : List ℕ
+  pub used : ℕ
+
+abbrev pub memoryOf : Kept → Given → Memory
+memoryOf k g = lent (k .book) (k .account) (k .register) (g .room) (g .out) (g .used)
+
+abbrev pub keptIn : Memory → Kept
+keptIn m = record { book = m .book; account = m .account; register = m .register }
+
+-- what is kept after lines, each given to the library
+abbrev pub linesOn : Kept → List Given → Kept
+linesOn k [] = k
+linesOn k (g ∷ gs) = linesOn (keptIn (lineOn (memoryOf k g) (g .line) .memory)) gs
+
+-- the same lines by the journal's own rules: its state, and the register
+pub record State : Type 0 where
+  pub journal : Journal
+  pub register : List ℕ
+
+abbrev pub stateAfter : Stepped → State
+stateAfter step = record { journal = step .journal; register = step .register }
+
+abbrev pub linesBy : State → List Given → State
+linesBy s [] = s
+linesBy s (g ∷ gs) = linesBy (stateAfter (lineStep (s .journal) (s .register) (taken (g .line)))) gs
+
+-- what a machine's memory is sure of at each of these lines: the buffers are as long as stated, and the book after it fits its fields
+pub record Sized (s : State) (g : Given) : Type 0 where
+  pub register : registerWords ≤ length (s .register)
+  pub room : wordRoom ≤ length (g .room)
+  pub out : replyRoom ≤ length (g .out)
+  pub book : FitsBook (lineStep (s .journal) (s .register) (taken (g .line)) .journal .book)
+
+abbrev pub AllSized : State → List Given → Type 0
+AllSized s [] = Unit
+AllSized s (g ∷ gs) = Sized s g × AllSized (stateAfter (lineStep (s .journal) (s .register) (taken (g .line)))) gs

@@ -11,7 +11,7 @@ ghost use Prim.Native.Nat.{_≤_};
 ghost use lib.ListN.{length};
 ghost use Rattle.market.specs.Limits.{release, ruleEdition};
 ghost use Rattle.desk.specs.Desk.{answerTo, bufferAfter};
-ghost use Rattle.book_words.specs.BookWords.{bookSize};
+ghost use Rattle.book_words.specs.BookWords.{bookSize, FitsBook};
 ghost use Rattle.journal_answers.specs.Answers.{replyRoom};
 ghost use Rattle.replay.specs.Replay.{wordRoom, lineStep};
 ghost use Rattle.tra_engine.specs.Library as rules;
@@ -85,7 +85,8 @@ fn run(
     requires { ⌜ bookSize ≤ length (now book) ⌝ }
     requires { ⌜ wordRoom ≤ length (now room) ⌝ }
     requires { ⌜ replyRoom ≤ length (now out) ⌝ }
-    ensures { λ r. ⌜ rules.lent (now (book .exit)) (now (account .exit)) (now (register .exit)) (now (room .exit)) (now (out .exit)) (now (used .exit)) ≡ rules.leftBy (rules.lent (now (book .entry)) (now (account .entry)) (now (register .entry)) (now (room .entry)) (now (out .entry)) (now (used .entry))) (now (line .entry)) (lineStep journal (now (register .entry)) (now (line .entry))) ⌝ }
+    ensures memory { λ r. ⌜ rules.lent (now (book .exit)) (now (account .exit)) (now (register .exit)) (now (room .exit)) (now (out .exit)) (now (used .exit)) ≡ rules.leftBy (rules.lent (now (book .entry)) (now (account .entry)) (now (register .entry)) (now (room .entry)) (now (out .entry)) (now (used .entry))) (now (line .entry)) (lineStep journal (now (register .entry)) (now (line .entry))) ⌝ }
+    ensures fits { λ r. ⌜ FitsBook (lineStep journal (now (register .entry)) (now (line .entry)) .journal .book) ⌝ }
 {
     let mut prices = [0i64; Engine::ZONES];
     let replied = replay::answer_line(
@@ -107,7 +108,7 @@ fn run(
 
 // One line of a journal, without its byte 10, on the state that the program keeps: the book's words, the account and the register. What is printed
 // behind it goes to the front of `out`, and the count of its bytes to `used`. Refused with 1 where a buffer is short and with 2 where no book is laid
-// in the words, with all as it was.
+// in the words, with all as it was. After a line that is answered the words hold the journal's state.
 #[no_mangle]
 pub extern "C" fn tra_line(
     book: &mut [u64],
@@ -120,6 +121,7 @@ pub extern "C" fn tra_line(
 ) -> u32
     ensures number { λ r. ⌜ r ≡ rules.lineOn (rules.lent (now (book .entry)) (now (account .entry)) (now (register .entry)) (now (room .entry)) (now (out .entry)) (now (used .entry))) (now (line .entry)) .number ⌝ }
     ensures memory { λ r. ⌜ rules.lent (now (book .exit)) (now (account .exit)) (now (register .exit)) (now (room .exit)) (now (out .exit)) (now (used .exit)) ≡ rules.lineOn (rules.lent (now (book .entry)) (now (account .entry)) (now (register .entry)) (now (room .entry)) (now (out .entry)) (now (used .entry))) (now (line .entry)) .memory ⌝ }
+    ensures state { λ r. ⌜ (r ≡ 0 → rules.HeldIn (now (book .exit)) (now (account .exit)) (rules.stepOn (rules.lent (now (book .entry)) (now (account .entry)) (now (register .entry)) (now (room .entry)) (now (out .entry)) (now (used .entry))) (rules.taken (now (line .entry))) .journal)) ⌝ }
 {
     if short(book, register, room, out) {
         return Refusal::SHORT_BUFFER;

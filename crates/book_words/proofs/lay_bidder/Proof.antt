@@ -1,3 +1,5 @@
+use Prim.Native.Nat.{_<_, _^_}
+use borrow.Author.Tests.{lt-ltb}
 use mathlib.Core.List.{_∷_, []}
 use native.Mathlib.Numerals.{add-one, add-two, add-three, add-four, add-five}
 use lib.Seq.{sets-eq}
@@ -69,8 +71,11 @@ returns c =
     let a = c .before .before .before .before .before .before .args in
     let at = a .at in
     let x = a .bidder in
-    rw (add-one at, add-two at, add-three at, add-four at, add-five at)
-    (sets-eq (x .cash .0 ∷ x .applied .0 ∷ x .letter .0 ∷ x .hold .0 ∷ x .owed .0 ∷ x .step ∷ []) (a .words .now) at (omega arith))
+    let step : x .step < 2 ^ 32 = search needs in (
+      rw (add-one at, add-two at, add-three at, add-four at, add-five at)
+          (sets-eq (x .cash .0 ∷ x .applied .0 ∷ x .letter .0 ∷ x .hold .0 ∷ x .owed .0 ∷ x .step ∷ []) (a .words .now) at (omega arith)),
+      lt-ltb (x .step) (2 ^ 32) step,
+    )
 
 pub lay-bidder-spec : {M : Type 1} → statement M
 lay-bidder-spec =

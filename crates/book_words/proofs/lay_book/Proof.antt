@@ -5,7 +5,7 @@ use native.Mathlib.Omega.{arith}
 use lib.ListN.{length-set}
 use Rattle.text.specs.Put.{putAt}
 use Rattle.book_words.specs.BookWords.{frontSize, biddersFrom, pathWords, bidderWords, each}
-use Rattle.book_words.proofs.WordLaws.{book-laid, book-length}
+use Rattle.book_words.proofs.WordLaws.{book-laid}
 use borrow.Author.Needs.{needs}
 use Rattle.book_words.proofs.lay_book.Statement.{statement}
 use Rattle.book_words.proofs.lay_book.Tie as tie
@@ -38,13 +38,20 @@ returns : tie.Need-returns
 returns c =
     let a = c .before .before .before .before .before .before .before .before .before .before .before .before .before .before .before .args in
     let b = a .book in
+    let stage = c .before .before .before .before .before .before .before .before .before .before .lay-stage in
     let paths = c .before .before .before .before .before .before .lay-paths in
     let bidders = c .before .before .lay-bidders in (
       bidders .ensures .0
           ∙ ap (λ (l : List ℕ). putAt l biddersFrom (each bidderWords (b .bidders)))
-          (paths .ensures .0 ∙ ap (λ (l : List ℕ). putAt l frontSize (each pathWords (b .paths))) (c .before .before .before .before .before .before .before .before .before .before .lay-stage .ensures))
-          ∙ book-laid b (paths .ensures .1) (bidders .ensures .1) (a .words .now) (search needs),
-      book-length b (paths .ensures .1) (bidders .ensures .1),
+          (paths .ensures .0 ∙ ap (λ (l : List ℕ). putAt l frontSize (each pathWords (b .paths))) (stage .ensures .0))
+          ∙ book-laid b (paths .ensures .1 .0) (bidders .ensures .1 .0) (a .words .now) (search needs),
+      record {
+        paths = paths .ensures .1 .0;
+        bidders = bidders .ensures .1 .0;
+        each-path = paths .ensures .1 .1;
+        each-bidder = bidders .ensures .1 .1;
+        stage = stage .ensures .1;
+      },
     )
 
 pub lay-book-spec : {M : Type 1} → statement M

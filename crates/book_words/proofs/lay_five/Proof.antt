@@ -1,3 +1,7 @@
+use mathlib.Core.Path.{ap₂}
+use mathlib.Core.Bool.{_&&_}
+use Prim.Native.Nat.{_<_, _^_}
+use borrow.Author.Tests.{lt-ltb}
 use mathlib.Core.List.{_∷_, []}
 use lib.Seq.{sets-eq}
 use native.Mathlib.Omega.{arith}
@@ -33,7 +37,12 @@ same-length c = search needs
 returns : tie.Need-returns
 returns c =
     let a = c .before .before .args in
-    sets-eq (a .stage ∷ a .kind ∷ a .round ∷ a .first .0 ∷ a .last .0 ∷ []) (a .words .now) 2 (omega arith)
+    let round : a .round < 2 ^ 32 = search needs in
+    let first : a .first .0 < 2 ^ 32 = search needs in
+    let last : a .last .0 < 2 ^ 32 = search needs in (
+      sets-eq (a .stage ∷ a .kind ∷ a .round ∷ a .first .0 ∷ a .last .0 ∷ []) (a .words .now) 2 (omega arith),
+      ap₂ _&&_ (lt-ltb (a .round) (2 ^ 32) round) (ap₂ _&&_ (lt-ltb (a .first .0) (2 ^ 32) first) (lt-ltb (a .last .0) (2 ^ 32) last)),
+    )
 
 pub lay-five-spec : {M : Type 1} → statement M
 lay-five-spec =

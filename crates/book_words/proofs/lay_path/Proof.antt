@@ -1,6 +1,8 @@
-use mathlib.Core.Path.{_∙_, ap}
+use mathlib.Core.Bool.{_&&_}
+use borrow.Author.Tests.{lt-ltb}
+use mathlib.Core.Path.{_∙_, ap, ap₂}
 use mathlib.Core.List.{_∷_, []}
-use Prim.Native.Nat.{ℕ}
+use Prim.Native.Nat.{ℕ, _<_, _^_}
 use native.Mathlib.Numerals.{add-one, add-two, add-three}
 use lib.Seq.{sets-eq}
 use Rattle.text.specs.Put.{putAt}
@@ -64,9 +66,14 @@ returns c =
     let at = a .at in
     let p = a .path in
     let d = c .before .before .before .direction-number in
-    rw (add-one at, add-two at, add-three at)
-    (sets-eq (d .result ∷ p .zone ∷ p .offer .0 ∷ p .sold .0 ∷ []) (a .words .now) at (omega arith)
-    ∙ ap (λ (n : ℕ). putAt (a .words .now) at (n ∷ p .zone ∷ p .offer .0 ∷ p .sold .0 ∷ [])) (d .ensures))
+    let zone : p .zone < 2 ^ 32 = search needs in
+    let offer : p .offer .0 < 2 ^ 32 = search needs in
+    let sold : p .sold .0 < 2 ^ 32 = search needs in (
+      rw (add-one at, add-two at, add-three at)
+          (sets-eq (d .result ∷ p .zone ∷ p .offer .0 ∷ p .sold .0 ∷ []) (a .words .now) at (omega arith)
+          ∙ ap (λ (n : ℕ). putAt (a .words .now) at (n ∷ p .zone ∷ p .offer .0 ∷ p .sold .0 ∷ [])) (d .ensures)),
+      ap₂ _&&_ (lt-ltb (p .zone) (2 ^ 32) zone) (ap₂ _&&_ (lt-ltb (p .offer .0) (2 ^ 32) offer) (lt-ltb (p .sold .0) (2 ^ 32) sold)),
+    )
 
 pub lay-path-spec : {M : Type 1} → statement M
 lay-path-spec =

@@ -1,7 +1,6 @@
 use borrow.Author.Needs.{needs}
 use mathlib.Core.Path.{_≡_, refl, sym}
 use Prim.Native.Nat.{_≤_, _-_}
-use native.Mathlib.Omega.{arith}
 use lib.ListN.{length, drop}
 use Rattle.book_words.specs.BookWords.{sameWords}
 use Rattle.book_words.proofs.WordLaws.{lengths-differ, same-next, word-differs, all-same}

@@ -3,7 +3,7 @@ use lib.ListN.{take}
 use lib.Seq.{length-take-le}
 use Rattle.market.proofs.Filled.{zeros}
 use Rattle.book_words.specs.BookWords.{bookSize, bookWords, sameWords, standsFor}
-use Rattle.book_words.proofs.WordLaws.{laid-whole}
+use Rattle.book_words.proofs.WordLaws.{book-length, laid-whole}
 use borrow.Author.Needs.{needs}
 use Rattle.book_words.proofs.stands_for.Statement.{statement}
 use Rattle.book_words.proofs.stands_for.Tie as tie
@@ -29,7 +29,7 @@ returns c =
     let a = c .before .before .before .before .before .before .before .args in
     let laid = c .before .before .before .before .lay-book in
     c .same-words .ensures
-    ∙ ap (sameWords (take bookSize (a .words .now))) (laid .ensures .0 ∙ laid-whole (zeros bookSize) (bookWords (a .book)) (sym (laid .ensures .1)))
+    ∙ ap (sameWords (take bookSize (a .words .now))) (laid .ensures .0 ∙ laid-whole (zeros bookSize) (bookWords (a .book)) (sym (book-length (a .book) (laid .ensures .1 .paths) (laid .ensures .1 .bidders))))
 
 pub stands-for-spec : {M : Type 1} → statement M
 stands-for-spec =

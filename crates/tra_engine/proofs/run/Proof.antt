@@ -3,10 +3,10 @@ use Prim.Native.Nat.{ℕ}
 use lib.ListN.{length, take, drop}
 use mir.Facts.{toZ-ofZ}
 use mir.Syntax.{w64}
-use mathlib.Core.Path.{_≡_, sym, _∙_, ap}
+use mathlib.Core.Path.{_≡_, sym, _∙_, ap, subst}
 use lib.Seq.{length-take-le}
 use Rattle.text.specs.Put.{putAt}
-use Rattle.book_words.specs.BookWords.{bookWords}
+use Rattle.book_words.specs.BookWords.{bookWords, FitsBook}
 use Rattle.replay.specs.Replay.{wordRoom, ownWords}
 use Rattle.replay.specs.declared.Journal.{Journal}
 use Rattle.tra_engine.proofs.LineLaws.{laid-part}
@@ -50,8 +50,9 @@ returns c =
     let line = a .line .now in
     let reply = c .before .before .before .before .before .before .before .before .before .before .before .before .before .before .before .answer-line in
     let done = reply .ensures in
+    let laid = c .before .before .lay-book .ensures in
     let book =
-    c .before .before .lay-book .ensures .0 ∙ ap (λ (x : Journal). putAt (a .book .now) 0 (bookWords (x .book))) (done .0)
+    laid .0 ∙ ap (λ (x : Journal). putAt (a .book .now) 0 (bookWords (x .book))) (done .0)
     in
     let account =
     toZ-ofZ {w = w64} {z = reply .result .journal .book .account .0} (record { sfits = c .before .before .before .before .struct-told .given .0 .1 }) ∙ ap (λ (x : Journal). x .book .account .0) (done .0)
@@ -60,15 +61,17 @@ returns c =
     let own =
     ap (λ (l : List ℕ). l ++ drop wordRoom room) (done .1 .1 .1 .1 .0)
     ∙ laid-part (ownWords line) room wordRoom (start .pre .1 .0) (ap length (sym (done .1 .1 .1 .1 .0)) ∙ long ∙ length-take-le wordRoom room (start .pre .1 .0))
-    in
-    λ j. record {
-      book = book j;
-      account = account j;
-      register = done .1 .1 .1 .0 j;
-      room = own j;
-      out = done .1 .1 .0 j;
-      used = done .1 .0 j;
-    }
+    in (
+      λ j. record {
+        book = book j;
+        account = account j;
+        register = done .1 .1 .1 .0 j;
+        room = own j;
+        out = done .1 .1 .0 j;
+        used = done .1 .0 j;
+      },
+      subst (λ (x : Journal). FitsBook (x .book)) (done .0) (laid .1),
+    )
 
 pub run-spec : {M : Type 1} → statement M
 run-spec =

@@ -1,14 +1,16 @@
+use native.Mathlib.Omega.{arith}
 use mir.Facts.{toZ-ofZ}
 use mir.Syntax.{w64}
 use borrow.Author.Tests.{not-true, not-false}
-use mathlib.Core.Path.{sym, _∙_, ap}
+use mathlib.Core.Path.{sym, _∙_, ap, subst}
 use mathlib.Core.List.{List}
 use Prim.Native.Nat.{ℕ}
 use Rattle.market.specs.declared.book.Book.{Book}
-use Rattle.book_words.specs.BookWords.{bookIn, standsFor}
+use Rattle.book_words.specs.BookWords.{bookIn, standsFor, FitsBook}
 use Rattle.book_words.proofs.ReadBack.{stands-with}
 use Rattle.replay.specs.Replay.{lineStep}
-use Rattle.tra_engine.specs.Library.{Returned, lent, journalOf, leftBy, taken}
+use Rattle.tra_engine.specs.Library.{Memory, Returned, lent, journalOf, HeldIn, stepOn, leftBy, taken}
+use Rattle.tra_engine.proofs.JournalLaws.{line-held}
 use Rattle.tra_engine.proofs.LineLaws.{enough, line-short, line-unsound, line-run}
 use borrow.Author.Needs.{needs}
 use Rattle.tra_engine.proofs.tra_line.Statement.{statement}
@@ -34,7 +36,7 @@ returns c =
     let a = c .before .before .before .before .before .before .before .before .before .before .before .args in
     let m = lent (a .book .now) (a .account .now) (a .register .now) (a .room .now) (a .out .now) (a .used .now) in
     let is = line-short m (a .line .now) (sym (c .before .short .ensures) ∙ c .if1 .taken) in
-    (ap (λ (x : Returned). x .number) is, ap (λ (x : Returned). x .memory) is)
+    (ap (λ (x : Returned). x .number) is, (ap (λ (x : Returned). x .memory) is, λ e. absurd (let never : ⊥ = omega (arith, e) in never)))
 
 book-in-requires : tie.Need-book-in-requires
 book-in-requires c κs =
@@ -67,15 +69,15 @@ returns-2 c =
     let is-held = held .ensures ∙ ap (bookIn (a .book .now)) (toZ-ofZ {w = w64} {z = a .account .now} (record { sfits = c .before .before .before .before .before .balance .given })) in
     let fails = sym (stands-with (a .book .now) (a .account .now)) ∙ ap (standsFor (a .book .now)) (sym is-held) ∙ sym (stood .ensures) ∙ not-true (stood .result) (c .if2 .taken) in
     let is = line-unsound m (a .line .now) (sym (c .before .before .before .before .before .before .before .short .ensures) ∙ c .before .before .before .before .before .before .if1 .left) fails in
-    (ap (λ (x : Returned). x .number) is, ap (λ (x : Returned). x .memory) is)
+    (ap (λ (x : Returned). x .number) is, (ap (λ (x : Returned). x .memory) is, λ e. absurd (let never : ⊥ = omega (arith, e) in never)))
 
 taken-requires : tie.Need-taken-requires
 taken-requires c κs = search needs
 
 run-requires : tie.Need-run-requires
 run-requires c κs =
-    let long = (let a = c .before .before .before .before .before .before .before .before .before .before .before .before .before .before .before .before .before .before .before .before .before .before .before .before .before .args in
-    enough (a .book .now) (a .register .now) (a .room .now) (a .out .now) (sym (c .before .before .before .before .before .before .before .before .before .before .before .before .before .before .before .short .ensures) ∙ c .before .before .before .before .before .before .before .before .before .before .before .before .before .before .if1 .left)) in
+    let a = c .before .before .before .before .before .before .before .before .before .before .before .before .before .before .before .before .before .before .before .before .before .before .before .before .before .args in
+    let long = enough (a .book .now) (a .register .now) (a .room .now) (a .out .now) (sym (c .before .before .before .before .before .before .before .before .before .before .before .before .before .before .before .short .ensures) ∙ c .before .before .before .before .before .before .before .before .before .before .before .before .before .before .if1 .left) in
     (long .words, (long .own, long .text))
 
 same-length-9 : tie.Need-same-length-9
@@ -101,12 +103,22 @@ returns-3 c =
     let is-held = held .ensures ∙ ap (bookIn (a .book .now)) (toZ-ofZ {w = w64} {z = a .account .now} (record { sfits = c .before .before .before .before .before .before .before .before .before .before .before .before .before .before .before .before .before .before .before .before .before .before .balance .given })) in
     let cut = c .before .before .before .before .before .before .before .before .before .before .before .before .taken in
     let holds = sym (stands-with (a .book .now) (a .account .now)) ∙ ap (standsFor (a .book .now)) (sym is-held) ∙ sym (stood .ensures) ∙ not-false (stood .result) (c .before .before .before .before .before .before .before .before .before .before .before .before .before .before .before .before .before .if2 .left) in
-    let is = line-run m line (sym (c .before .before .before .before .before .before .before .before .before .before .before .before .before .before .before .before .before .before .before .before .before .before .before .before .short .ensures) ∙ c .before .before .before .before .before .before .before .before .before .before .before .before .before .before .before .before .before .before .before .before .before .before .before .if1 .left) holds in (
+    let is = line-run m line (sym (c .before .before .before .before .before .before .before .before .before .before .before .before .before .before .before .before .before .before .before .before .before .before .before .before .short .ensures) ∙ c .before .before .before .before .before .before .before .before .before .before .before .before .before .before .before .before .before .before .before .before .before .before .before .if1 .left) holds in
+    let done = c .before .before .before .before .before .before .before .before .run .ensures in
+    let memory =
+    done .0
+    ∙ ap (λ (l : List ℕ). leftBy m l (lineStep (journalOf (held .result)) register l)) (cut .ensures)
+    ∙ ap (λ (b : Book). leftBy m (taken line) (lineStep (journalOf b) register (taken line))) is-held
+    in
+    let fits =
+    subst (λ (b : Book). FitsBook (lineStep (journalOf b) register (taken line) .journal .book)) is-held
+    (subst (λ (l : List ℕ). FitsBook (lineStep (journalOf (held .result)) register l .journal .book)) (cut .ensures) (done .1))
+    in (
       ap (λ (x : Returned). x .number) is,
-      c .before .before .before .before .before .before .before .before .run .ensures
-          ∙ ap (λ (l : List ℕ). leftBy m l (lineStep (journalOf (held .result)) register l)) (cut .ensures)
-          ∙ ap (λ (b : Book). leftBy m (taken line) (lineStep (journalOf b) register (taken line))) is-held
-          ∙ ap (λ (x : Returned). x .memory) is,
+      (
+        memory ∙ ap (λ (x : Returned). x .memory) is,
+        λ e. subst (λ (x : Memory). HeldIn (x .book) (x .account) (stepOn m (taken line) .journal)) (sym memory) (line-held m (taken line) fits),
+      ),
     )
 
 pub tra-line-spec : {M : Type 1} → statement M
