@@ -9,6 +9,7 @@ use market::book::Path;
 use market::book::Route;
 use market::engine::Engine;
 use replay::Journal;
+use replay::LINE_BYTES;
 ghost use mathlib.Core.Path.{_≡_};
 ghost use Prim.Native.Nat.{_+_, _≤_};
 ghost use lib.ListN.{length};
@@ -16,9 +17,6 @@ ghost use Rattle.market.specs.Limits.{zones};
 ghost use Rattle.journal_answers.specs.Answers.{replyRoom};
 ghost use Rattle.journal_states.specs.States.{lineRoom};
 ghost use Rattle.replay.specs.Replay.{wordRoom};
-
-// How many bytes a line may have before its byte 10.
-pub const LINE_BYTES: usize = 65_536;
 
 const INPUT_BYTES: usize = LINE_BYTES + 1;
 

@@ -32,7 +32,11 @@ use Rattle.replay.specs.declared.answers.Tell.the-variants as tells
 
 -- ---- What a call is lent
 
--- a line has at most 65,536 bytes, and a word takes at least two of them
+-- "A line has up to 65,536 bytes before its byte 10."
+abbrev pub lineBytes : ℕ
+lineBytes = 65536
+
+-- a word takes at least two of them
 abbrev pub wordRoom : ℕ
 wordRoom = 32768
 

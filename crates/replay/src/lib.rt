@@ -22,6 +22,9 @@ ghost use Rattle.journal_fresh.specs.FreshLines.{freshSaid};
 ghost use Rattle.journal_lines.specs.Journal.{lineSaid, lineWords, linePrices};
 ghost use Rattle.replay.specs.Replay as rules;
 
+// How many bytes a line may have before its byte 10.
+pub const LINE_BYTES: usize = 65_536;
+
 // Room for the words of a line, and for the line behind it.
 pub const WORD_ROOM: usize = 32_768;
 

@@ -47,13 +47,13 @@ use Rattle.journal_lines.specs.Journal.{lineSaid, lineWords, linePrices}
 use Rattle.journal_lines.specs.Verbs.{freshWord, verbAt, laterVerb, lastVerb}
 use Rattle.journal_lines.specs.declared.Said.{Said}
 use Rattle.journal_lines.specs.declared.Said.the-variants.{Faulty, Called}
-use Rattle.replay.specs.Replay.{Stepped, wordRoom, turnedAway, callStep, freshState, freshBy, freshStep, saidStep, isFresh, lineStep}
+use Rattle.replay.specs.Replay.{lineBytes, Stepped, wordRoom, turnedAway, callStep, freshState, freshBy, freshStep, saidStep, isFresh, lineStep}
 use Rattle.replay.specs.declared.Journal.{Journal}
 use Rattle.book_words.specs.BookWords.{bookSize, bookWords, bookIn, stands, FitsBook}
 use Rattle.book_words.proofs.WordLaws.{book-length}
 use Rattle.book_words.proofs.ReadBack.{read-back, laid-stands, stands-laid, zeros-read, zeros-stand}
 use Rattle.journal_answers.specs.Answers.{replyRoom}
-use Rattle.tra_engine.specs.Library.{Memory, Returned, short, lineBytes, taken, journalOf, HeldIn, stepOn, run, lineOn, Kept, Given, memoryOf, keptIn, linesOn, State, stateAfter, linesBy, Sized, AllSized}
+use Rattle.tra_engine.specs.Library.{Memory, Returned, short, taken, journalOf, HeldIn, stepOn, run, lineOn, Kept, Given, memoryOf, keptIn, linesOn, State, stateAfter, linesBy, Sized, AllSized}
 use Rattle.tra_engine.proofs.LineLaws.{line-run}
 
 -- ---- A line that changes nothing

@@ -14,7 +14,7 @@ use Rattle.book_words.specs.BookWords.{bookSize, bookWords, bookIn, stands, Fit
 use Rattle.desk.specs.declared.Reply.{Reply}
 use Rattle.desk.specs.declared.Reply.the-variants.{Written, Refused}
 use Rattle.journal_answers.specs.Answers.{replyRoom}
-use Rattle.replay.specs.Replay.{Stepped, wordRoom, lineStep, ownWords}
+use Rattle.replay.specs.Replay.{lineBytes, Stepped, wordRoom, lineStep, ownWords}
 use Rattle.replay.specs.declared.Journal.{Journal}
 
 -- ---- A sheet
@@ -63,11 +63,8 @@ lineRefusals m =
     ∷ (not (stands (m .book)) gives 2)
     ∷ []
 
--- docs/JOURNAL.md, "A line has up to 65,536 bytes before its byte 10. A line that has not this form is refused with 40": a longer one is taken as
--- the empty line, which has not the form either
-abbrev pub lineBytes : ℕ
-lineBytes = 65536
-
+-- docs/JOURNAL.md, "A line that has not this form is refused with 40": a longer line than one may be is taken as the empty one, which has not
+-- the form either
 abbrev pub taken : List ℕ → List ℕ
 taken line = cond (ltb lineBytes (length line)) [] line
 

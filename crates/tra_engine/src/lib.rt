@@ -4,6 +4,7 @@ use desk::Reply;
 use market::answer::Refusal;
 use market::engine::Engine;
 use replay::Journal;
+use replay::LINE_BYTES;
 use replay::REPLY_ROOM;
 use replay::WORD_ROOM;
 ghost use mathlib.Core.Path.{_≡_};
@@ -15,9 +16,6 @@ ghost use Rattle.book_words.specs.BookWords.{bookSize, FitsBook};
 ghost use Rattle.journal_answers.specs.Answers.{replyRoom};
 ghost use Rattle.replay.specs.Replay.{wordRoom, lineStep};
 ghost use Rattle.tra_engine.specs.Library as rules;
-
-// So many bytes a line has at most, before its byte 10.
-pub const LINE_BYTES: usize = 65_536;
 
 // The engine's release.
 #[no_mangle]

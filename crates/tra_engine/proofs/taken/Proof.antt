@@ -1,6 +1,6 @@
 use lib.ListN.{length}
 use borrow.Author.Tests.{lt-ltb, le-ltb}
-use Rattle.tra_engine.specs.Library.{lineBytes}
+use Rattle.replay.specs.Replay.{lineBytes}
 use borrow.Author.Needs.{needs}
 use Rattle.tra_engine.proofs.taken.Statement.{statement}
 use Rattle.tra_engine.proofs.taken.Tie as tie
