@@ -36,7 +36,7 @@ function load(path,    line, words, n, opened) {
             n = split(line, words, " ")
             if (n > 1 && (words[1] == "record" || words[1] == "data")) known[path, words[2]] = 1
             else if (n > 1 && words[2] == ":") known[path, words[1]] = 1
-        } else if (path ~ /\.rt$/) {
+        } else if (path ~ /\.r[ts]$/) {
             sub(/^ +/, "", line)
             sub(/^pub +/, "", line)
             if (line ~ /^(fn|struct|enum|const) /) {
@@ -63,7 +63,7 @@ function check(ref,    path, names, at, n, i, name) {
     at = index(ref, ": ")
     path = at ? substr(ref, 1, at - 1) : ref
     names = at ? substr(ref, at + 2) : ""
-    if (path !~ /^(docs|samples)\//) path = "crates/" path
+    if (path !~ /^(docs|samples|bench)\//) path = "crates/" path
     if (path !~ /\.[a-z]+$|\/std(in|out)$/) {
         bad(ref " names no file")
         return
@@ -74,7 +74,7 @@ function check(ref,    path, names, at, n, i, name) {
         return
     }
     if (!at) {
-        if (path ~ /\.(antt|rt)$|\/std(in|out)$/) bad(ref " gives no name")
+        if (path ~ /\.(antt|rt|rs)$|\/std(in|out)$/) bad(ref " gives no name")
         return
     }
     if (path ~ /\/std(in|out)$/) {

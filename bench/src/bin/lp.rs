@@ -3,7 +3,8 @@
 //!     lp FOLDER [ROUNDS]
 //!
 //! writes each program to a folder, has glpsol solve it, and compares. A difference ends the program with status 1. The last
-//! rows are the two large rounds, with the time of both: glpsol's is that of its process, from its start to its end.
+//! rows are the two large rounds, with the time of both, each a median: the engine's for the round's line, and glpsol's for its
+//! process, from its start to its end.
 
 use std::env::args;
 use std::fmt::Write;
@@ -13,6 +14,9 @@ use std::process::{exit, Command};
 use std::time::{Duration, Instant};
 use tra_bench::chance::Chance;
 use tra_bench::work::bid_words;
+
+/// How often each is timed.
+const REPETITIONS: usize = 21;
 
 /// A pair of an admitted bid: where it bids, at what price, and for how many MW.
 struct Lamination {
@@ -42,10 +46,16 @@ fn main() {
     println!("{rounds} rounds: glpsol's optimum is the engine's total bid value in each");
     println!("| Round | Engine, µs | glpsol, µs | glpsol / engine |\n|---|---|---|---|");
     for (bids, laminations) in [(93, 20), (512, 2)] {
-        let (engine, solver) = check(&folder, "large", bids, laminations, 500_000_000_000, 900);
-        let (engine, solver) = (engine.as_micros().max(1), solver.as_micros());
+        let runs = (0..REPETITIONS).map(|_| check(&folder, "large", bids, laminations, 500_000_000_000, 900));
+        let (engines, solvers): (Vec<Duration>, Vec<Duration>) = runs.unzip();
+        let (engine, solver) = (median(engines).as_micros().max(1), median(solvers).as_micros());
         println!("| {bids} bids of {laminations} laminations | {engine} | {solver} | {} |", solver / engine);
     }
+}
+
+fn median(mut times: Vec<Duration>) -> Duration {
+    times.sort_unstable();
+    times[times.len() / 2]
 }
 
 /// One round by both; the time of each.
@@ -64,7 +74,7 @@ fn check(folder: &Path, name: &str, bids: usize, laminations: usize, cash: u64, 
 /// The round by the engine.
 fn answered(words: &[Vec<u64>], cash: u64, limit: u64) -> Round {
     let mut journal = tra::Journal::new();
-    let mut say = |line: &str| {
+    let say = |journal: &mut tra::Journal, line: &str| {
         let start = Instant::now();
         let reply = journal.line(line.as_bytes());
         let time = start.elapsed();
@@ -72,13 +82,20 @@ fn answered(words: &[Vec<u64>], cash: u64, limit: u64) -> Round {
         assert!(reply.starts_with("= ok"), "{line}: {reply}");
         (reply, time)
     };
-    say(&format!("fresh{}", " X 1".repeat(16)));
+    say(&mut journal, &format!("fresh{}", " X 1".repeat(16)));
     for bidder in 0..32 {
-        say(&format!("deposit {bidder} cash {}", cash + bidder * 1_000));
+        say(&mut journal, &format!("deposit {bidder} cash {}", cash + bidder * 1_000));
     }
-    say(&format!("open S 1 31{}", format!(" 9999 {limit} 9999 9999").repeat(16)));
+    say(&mut journal, &format!("open S 1 31{}", format!(" 9999 {limit} 9999 9999").repeat(16)));
     let line: String = words.iter().flatten().map(|word| format!(" {word}")).collect();
-    let (reply, time) = say(&format!("round{line}"));
+    let line = format!("round{line}");
+    let mut again = journal.clone();
+    let times = (0..REPETITIONS).map(|_| {
+        again.clone_from(&journal);
+        say(&mut again, &line).1
+    });
+    let time = median(times.collect());
+    let (reply, _) = say(&mut journal, &line);
     let (bids, paths) = reply.trim_end().split_once(" / ").expect("a round tells of paths");
     let row = |row: &str| row.split_whitespace().map(|word| word.parse().expect("a number")).collect::<Vec<u64>>();
     let offered = paths.split(" | ").map(|path| row(path)[0]).collect();

@@ -38,10 +38,6 @@ line-size : (f : List ℕ) (fs : List (List ℕ)) → length (line (f ∷ fs)) �
 line-size f [] = omega (arith, length-append f (newline ∷ []))
 line-size f (g ∷ fs) = omega (arith, length-append f (space ∷ line (g ∷ fs)), line-size g fs)
 
--- a number of at most so many digits
-digits : (k n : ℕ) → 1 ≤ k → k ≤ 20 → n < 10 ^ k → length (decimal n) ≤ k
-digits = decimal-length
-
 -- ---- A round
 
 -- what is known of an answered bid, by its number, and of a path
@@ -71,11 +67,11 @@ bid-size answers bid b s =
     omega (
       arith,
       line-size (decimal (bid + 1)) (decimal (b .bidder) ∷ decimal (b .path) ∷ markWord (markIn answers bid) ∷ decimal (valueIn answers bid) ∷ []),
-      digits 3 (bid + 1) (omega arith) (omega arith) (omega (arith, s .place)),
-      digits 2 (b .bidder) (omega arith) (omega arith) (omega (arith, s .bidder)),
-      digits 2 (b .path) (omega arith) (omega arith) (omega (arith, s .path)),
+      decimal-length 3 (bid + 1) (omega arith) (omega arith) (omega (arith, s .place)),
+      decimal-length 2 (b .bidder) (omega arith) (omega arith) (omega (arith, s .bidder)),
+      decimal-length 2 (b .path) (omega arith) (omega arith) (omega (arith, s .path)),
       mark-size (markIn answers bid),
-      digits 14 (valueIn answers bid) (omega arith) (omega arith) (s .value),
+      decimal-length 14 (valueIn answers bid) (omega arith) (omega arith) (s .value),
     )
 
 award-size : (answers : List ℕ) (bid : ℕ) (b : Bid) → BidSizes answers bid b → length (awardLine answers bid b) ≤ 24
@@ -83,10 +79,10 @@ award-size answers bid b s =
     omega (
       arith,
       line-size (decimal (b .bidder)) (decimal (b .path) ∷ decimal (wonIn answers bid) ∷ decimal (chargeIn answers bid) ∷ []),
-      digits 2 (b .bidder) (omega arith) (omega arith) (omega (arith, s .bidder)),
-      digits 2 (b .path) (omega arith) (omega arith) (omega (arith, s .path)),
-      digits 4 (wonIn answers bid) (omega arith) (omega arith) (s .won),
-      digits 12 (chargeIn answers bid) (omega arith) (omega arith) (s .charge),
+      decimal-length 2 (b .bidder) (omega arith) (omega arith) (omega (arith, s .bidder)),
+      decimal-length 2 (b .path) (omega arith) (omega arith) (omega (arith, s .path)),
+      decimal-length 4 (wonIn answers bid) (omega arith) (omega arith) (s .won),
+      decimal-length 12 (chargeIn answers bid) (omega arith) (omega arith) (s .charge),
     )
 
 price-size : (price : ℕ) → price < 10 ^ 9 → length (priceField price) ≤ 9
@@ -94,16 +90,16 @@ price-size price small = go (eqb price 0)
   where
     go : (t : Bool) → length (cond t noPrice (decimal price)) ≤ 9
     go true = omega arith
-    go false = digits 9 price (omega arith) (omega arith) small
+    go false = decimal-length 9 price (omega arith) (omega arith) small
 
 path-size : (results : List ℕ) (path : ℕ) → PathSizes results path → length (pathLine results path) ≤ 23
 path-size results path s =
     omega (
       arith,
       line-size (decimal path) (decimal (offeredIn results path) ∷ decimal (soldIn results path) ∷ priceField (priceIn results path) ∷ []),
-      digits 2 path (omega arith) (omega arith) (omega (arith, s .place)),
-      digits 4 (offeredIn results path) (omega arith) (omega arith) (s .offered),
-      digits 4 (soldIn results path) (omega arith) (omega arith) (s .sold),
+      decimal-length 2 path (omega arith) (omega arith) (omega (arith, s .place)),
+      decimal-length 4 (offeredIn results path) (omega arith) (omega arith) (s .offered),
+      decimal-length 4 (soldIn results path) (omega arith) (omega arith) (s .sold),
       price-size (priceIn results path) (s .price),
     )
 
@@ -144,7 +140,7 @@ paths-size results (suc n) s =
     )
 
 pub count-size : (word : List ℕ) (k n : ℕ) → 1 ≤ k → k ≤ 20 → n < 10 ^ k → length (countLine word n) ≤ length word + k + 2
-count-size word k n one most small = omega (arith, line-size word (decimal n ∷ []), digits k n one most small)
+count-size word k n one most small = omega (arith, line-size word (decimal n ∷ []), decimal-length k n one most small)
 
 pub record RoundSizes (paths : ℕ) (r : RoundMade) : Type 0 where
   pub few : length (r .bids) ≤ bidderLimit * pathLimit
@@ -185,12 +181,12 @@ bidder-size number x few s =
     omega (
       arith,
       line-size (decimal number) (decimal (x .cash .0) ∷ decimal (x .applied .0) ∷ decimal (x .letter .0) ∷ decimal (x .hold .0) ∷ decimal (x .owed .0) ∷ []),
-      digits 2 number (omega arith) (omega arith) (omega arith),
-      digits 13 (x .cash .0) (omega arith) (omega arith) (omega (arith, s .held)),
-      digits 13 (x .applied .0) (omega arith) (omega arith) (omega (arith, s .held)),
-      digits 13 (x .letter .0) (omega arith) (omega arith) (omega (arith, s .letter)),
-      digits 13 (x .hold .0) (omega arith) (omega arith) (omega (arith, s .letter, s .hold)),
-      digits 15 (x .owed .0) (omega arith) (omega arith) (omega (arith, s .owed)),
+      decimal-length 2 number (omega arith) (omega arith) (omega arith),
+      decimal-length 13 (x .cash .0) (omega arith) (omega arith) (omega (arith, s .held)),
+      decimal-length 13 (x .applied .0) (omega arith) (omega arith) (omega (arith, s .held)),
+      decimal-length 13 (x .letter .0) (omega arith) (omega arith) (omega (arith, s .letter)),
+      decimal-length 13 (x .hold .0) (omega arith) (omega arith) (omega (arith, s .letter, s .hold)),
+      decimal-length 15 (x .owed .0) (omega arith) (omega arith) (omega (arith, s .owed)),
     )
 
 bidders-size : (b : Book) (listed : List ℕ) → soundBook b ≡ true → every isBidder listed ≡ true → length (bidderLines b listed) ≤ length listed * 75
@@ -252,6 +248,6 @@ faulty-fits at small =
     omega (
       arith,
       line-size refusedWord (decimal formRefusal ∷ lineWord ∷ decimal at ∷ []),
-      digits 2 formRefusal (omega arith) (omega arith) (omega arith),
-      digits 10 at (omega arith) (omega arith) (omega (arith, small)),
+      decimal-length 2 formRefusal (omega arith) (omega arith) (omega arith),
+      decimal-length 10 at (omega arith) (omega arith) (omega (arith, small)),
     )

@@ -9,6 +9,7 @@ use lib.Dec.{leb, ltb}
 use lib.ListN.{length, getD, drop, length-append, length-drop, drop-of-length-le}
 use lib.Seq.{drop-cons, getD-drop, drop-drop, drop-append-seam}
 use borrow.Author.Tests.{le-leb, lt-leb, leb-true, le-ltb, ltb-false, not-true, not-false}
+use Rattle.market.proofs.Every.{both-true}
 use Rattle.market.proofs.Tests.{left-true, right-true}
 use Rattle.market.proofs.Tables.{none-holds}
 use Rattle.market.specs.Answers.{Row, _gives_, firstOf}
@@ -79,9 +80,6 @@ module _ (paths : ℕ) (words : List ℕ) (at : ℕ) (earlier : List Bid) where
       (record { good = not-false (right paths words at) (s .0); first = t .0; rises = u .0 }, u .1)
 
 module _ (paths : ℕ) (words : List ℕ) where
-  and : {s t : Bool} → s ≡ true → t ≡ true → (s && t) ≡ true
-  and p q = ap₂ _&&_ p q
-
   abbrev after-rows : ℕ → ℕ → List Bid → List Row
   after-rows more at earlier = refusalsFrom more paths words (bidEnd words at) (bidAt words at ∷ earlier)
 
@@ -102,7 +100,7 @@ module _ (paths : ℕ) (words : List ℕ) where
           let fits = fits-list paths words at (here .0 .good) in
           let after = next fits (here .1) in (
             ap (bidEncoded (bidAt words at) ++_) (after .0) ∙ bid-back words at fits,
-            and (and (and (right-true (wholeAt words at) (soundBid paths (bidAt words at)) (here .0 .good)) (ap not (here .0 .first)))
+            both-true (both-true (both-true (right-true (wholeAt words at) (soundBid paths (bidAt words at)) (here .0 .good)) (ap not (here .0 .first)))
                 (le-leb (stampOf earlier) (bidAt words at .stamp) (ltb-false (bidAt words at .stamp) (stampOf earlier) (here .0 .rises))))
                 (after .1),
           )

@@ -25,7 +25,7 @@ pub fn pay(book: Book, words: &mut [u32], bidder: u32, amount: Cents) -> Outcome
         };
     }
     let count = book.entries;
-    register::issue(words, count, bidder);
+    entry_changes::issue(words, count, bidder);
     Outcome {
         answer: Answer::Done,
         book: pay_parts::book_paid(book, bidder),
@@ -46,7 +46,7 @@ pub fn default(book: Book, words: &mut [u32], bidder: u32) -> Outcome
     }
     let drawn = default_parts::draw(book.bidder(bidder));
     let count = book.entries;
-    let left = register::remove(words, count, Removal::PendingOf(bidder));
+    let left = entry_changes::remove(words, count, Removal::PendingOf(bidder));
     Outcome {
         answer: Answer::Drawn(drawn),
         book: default_parts::book_forfeited(book, bidder).with_entries(left),

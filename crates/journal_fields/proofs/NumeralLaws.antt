@@ -8,15 +8,10 @@ use lib.Dec.{leb}
 use lib.ListN.{length, getD, drop}
 use borrow.Author.Tests.{le-leb, lt-leb, leb-true, leb-false, eq-eqb, ne-eqb}
 use Rattle.text.specs.Decimal.{zeroByte, digitsIn, valueFrom, plain}
-use Rattle.text.proofs.DecimalLaws.{is-digit}
+use Rattle.text.proofs.DecimalLaws.{is-digit, value-least}
 use Rattle.text.proofs.ReadLaws.{below-digits, above-digits, past-text, past-digits, first-digit}
 use Rattle.fields.specs.declared.Field.{Field}
 use Rattle.journal_fields.specs.JournalFields.{noField, numeralOf, numeral}
-
--- digits only add to what was read before them
-value-grows : (v : ℕ) (ds : List ℕ) → v ≤ valueFrom v ds
-value-grows v [] = omega arith
-value-grows v (c ∷ cs) = omega (arith, value-grows (v * 10 + (c - zeroByte)) cs)
 
 abbrev pub noMore : List ℕ → Bool
 noMore [] = true
@@ -135,7 +130,7 @@ module _ (text : List ℕ) (at limit : ℕ) where
       -- and the number is over the limit
       pub too-large : limit < next → noField ≡ numeral limit (drop at text)
       unfolding numeral
-      too-large more = over limit ds (omega (arith, says-next, value-grows next rest))
+      too-large more = over limit ds (omega (arith, says-next, value-least next rest))
 
       -- and the number goes on
       pub numeral-more : (at < i → 1 ≤ value) → next ≤ limit → NumeralTo (i + 1) next

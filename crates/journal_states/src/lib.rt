@@ -1,9 +1,5 @@
-// What a journal prints of the state: its lines, each at the front of the buffer.
-use market::book::Bidder;
-use market::book::Direction;
-use market::book::Entry;
+// What a journal prints of the engine and of the book, each line at the front of the buffer.
 use market::book::Kind;
-use market::book::Path;
 use market::book::Period;
 use market::book::Stage;
 use market::engine::Engine;
@@ -13,7 +9,7 @@ ghost use Prim.Native.Nat.{_+_, _≤_};
 ghost use lib.IntN.{natAbs};
 ghost use lib.ListN.{length};
 ghost use Rattle.text.specs.Put.{putAt};
-ghost use Rattle.journal_states.specs.States.{lineRoom, engineText, accountText, openText, stageText, bookText, offerText, pathText, blank, bidderPart, entryText};
+ghost use Rattle.journal_states.specs.States.{lineRoom, engineText, accountText, openText, stageText, bookText};
 
 // The engine's own release and rule edition.
 pub fn put_engine(out: &mut [u8]) -> usize
@@ -94,92 +90,4 @@ pub fn put_book(out: &mut [u8], account: Balance, entries: usize, stage: Stage) 
     let counted = rows::put_row(out, owned, b" count", &row);
     let end = put_stage(out, counted, stage);
     text::put_bytes(out, end, b"\n")
-}
-
-// A path's direction, zone, offer and what is sold.
-fn put_offer(out: &mut [u8], at: usize, path: Path) -> usize
-    requires { ⌜ at + length (offerText path) ≤ length (now out) ⌝ }
-    ensures place { λ r. ⌜ r ≡ at + length (offerText path) ⌝ }
-    ensures bytes { λ _. ⌜ now (out .exit) ≡ putAt (now (out .entry)) at (offerText path) ⌝ }
-{
-    let direction = path.direction;
-    let offer = path.offer;
-    let sold = path.sold;
-    let row = [path.zone as u64, offer.0 as u64, sold.0 as u64];
-    match direction {
-        Direction::Export => rows::put_last_row(out, at, b" X", &row),
-        Direction::Import => rows::put_last_row(out, at, b" M", &row),
-    }
-}
-
-// The path of a number.
-pub fn put_path(out: &mut [u8], i: usize, path: Path) -> usize
-    requires { ⌜ lineRoom ≤ length (now out) ⌝ }
-    ensures place { λ r. ⌜ r ≡ length (pathText i path) ⌝ }
-    ensures bytes { λ _. ⌜ now (out .exit) ≡ putAt (now (out .entry)) 0 (pathText i path) ⌝ }
-{
-    let row = [i as u64];
-    let next = rows::put_row(out, 0, b"# path", &row);
-    put_offer(out, next, path)
-}
-
-// Whether all of a bidder's account is 0.
-fn is_blank(bidder: Bidder) -> bool
-    ensures { λ r. ⌜ r ≡ blank bidder ⌝ }
-{
-    let cash = bidder.cash;
-    let applied = bidder.applied;
-    let letter = bidder.letter;
-    let hold = bidder.hold;
-    let owed = bidder.owed;
-    let money = (cash.0 == 0) & (applied.0 == 0) & (letter.0 == 0) & (hold.0 == 0) & (owed.0 == 0);
-    money & (bidder.step == 0)
-}
-
-// The bidder of a number, and nothing where all is 0.
-pub fn put_bidder(out: &mut [u8], i: usize, bidder: Bidder) -> usize
-    requires { ⌜ lineRoom ≤ length (now out) ⌝ }
-    ensures place { λ r. ⌜ r ≡ length (bidderPart i bidder) ⌝ }
-    ensures bytes { λ _. ⌜ now (out .exit) ≡ putAt (now (out .entry)) 0 (bidderPart i bidder) ⌝ }
-{
-    if is_blank(bidder) {
-        return 0;
-    }
-    let cash = bidder.cash;
-    let applied = bidder.applied;
-    let letter = bidder.letter;
-    let hold = bidder.hold;
-    let owed = bidder.owed;
-    let row = [
-        i as u64,
-        cash.0,
-        applied.0,
-        letter.0,
-        hold.0,
-        owed.0,
-        bidder.step as u64,
-    ];
-    rows::put_last_row(out, 0, b"# bidder", &row)
-}
-
-// The register's entry of a number.
-pub fn put_entry(out: &mut [u8], i: usize, entry: Entry) -> usize
-    requires { ⌜ lineRoom ≤ length (now out) ⌝ }
-    ensures place { λ r. ⌜ r ≡ length (entryText i entry) ⌝ }
-    ensures bytes { λ _. ⌜ now (out .exit) ≡ putAt (now (out .entry)) 0 (entryText i entry) ⌝ }
-{
-    let quantity = entry.quantity;
-    let period = entry.period;
-    let first = period.first;
-    let last = period.last;
-    let row = [
-        i as u64,
-        entry.bidder as u64,
-        entry.path as u64,
-        quantity.0 as u64,
-        first.0 as u64,
-        last.0 as u64,
-        entry.state as u64,
-    ];
-    rows::put_last_row(out, 0, b"# entry", &row)
 }

@@ -123,7 +123,7 @@ fn show_path(i: usize, count: usize, path: Path, out: &mut [u8])
     requires { ⌜ lineRoom ≤ length (now out) ⌝ }
 {
     if i < count {
-        let used = journal_states::put_path(out, i, path);
+        let used = journal_lists::put_path(out, i, path);
         write(out, used);
     }
 }
@@ -143,7 +143,7 @@ fn show_bidders(book: Book, out: &mut [u8])
 {
     let bidders = book.bidders;
     for i in 0..Engine::BIDDERS {
-        let used = journal_states::put_bidder(out, i, bidders[i]);
+        let used = journal_lists::put_bidder(out, i, bidders[i]);
         write(out, used);
     }
 }
@@ -153,7 +153,7 @@ fn show_entry(i: usize, count: usize, entry: Entry, out: &mut [u8])
     requires { ⌜ lineRoom ≤ length (now out) ⌝ }
 {
     if i < count {
-        let used = journal_states::put_entry(out, i, entry);
+        let used = journal_lists::put_entry(out, i, entry);
         write(out, used);
     }
 }

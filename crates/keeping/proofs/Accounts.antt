@@ -7,17 +7,17 @@ use lib.Dec.{leb, ltb}
 use lib.IntN.{ℤ, pos, negsuc, _+ℤ_, _-ℤ_}
 use lib.Signed.{leZ}
 use borrow.Author.Tests.{leb-true, le-leb}
+use Rattle.market.proofs.Every.{both-true}
 use Rattle.market.proofs.Tests.{left-true}
 use Rattle.market.specs.Limits.{accountLimit, reserve}
 use Rattle.market.specs.Sound.{soundAccount}
-use Rattle.keeping.proofs.Made.{both}
 
 -- a balance at or above 0, and one below
 above-sound : (a : ℕ) → a ≤ accountLimit → soundAccount (pos a) ≡ true
 above-sound a h = le-leb a accountLimit h
 
 below-sound : (a : ℕ) → a ≤ accountLimit - 1 → soundAccount (negsuc a) ≡ true
-below-sound a h = both (le-leb a (accountLimit - 1) h) refl
+below-sound a h = both-true (le-leb a (accountLimit - 1) h) refl
 
 above-limit : (a : ℕ) → soundAccount (pos a) ≡ true → a ≤ accountLimit
 above-limit a h = leb-true a accountLimit h

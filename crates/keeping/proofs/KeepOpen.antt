@@ -8,7 +8,7 @@ use native.Mathlib.Omega.{arith}
 use lib.ListN.{getD, take, set}
 use lib.Seq.{getD-take}
 use borrow.Author.Tests.{not-false, leb-true, le-leb}
-use Rattle.market.proofs.Every.{every-at-any}
+use Rattle.market.proofs.Every.{both-true, every-at-any}
 use Rattle.market.proofs.SoundLaws.{sound-parts, bidder-bounds}
 use Rattle.market.proofs.Tables.{none-holds, neither-holds}
 use Rattle.market.proofs.Tests.{left-true, right-true}
@@ -30,7 +30,7 @@ use Rattle.register.specs.Entries.{outstanding}
 use Rattle.register.specs.Refusals.{registerRefusals, countedEntries}
 use Rattle.opening.specs.Open.{quantitiesAt, wordsNeeded, lentRefusals, openRefusals, openTable, openedPath, openedPaths, opened, «open»}
 use Rattle.keeping.proofs.Lifting.{book-kept, none-moves, nothing-moved}
-use Rattle.keeping.proofs.Made.{both, sound-made, bidder-made}
+use Rattle.keeping.proofs.Made.{sound-made, bidder-made}
 use Rattle.keeping.specs.Money.{worth, Moved}
 use Rattle.keeping.specs.State.{State}
 
@@ -39,15 +39,15 @@ use Rattle.keeping.specs.State.{State}
 -- one element more is set behind first ones that pass a test
 pub every-next : {A : Type 0} (test : A → Bool) (l : List A) (k : ℕ) (v : A) → every test (take k l) ≡ true → test v ≡ true → every test (take (suc k) (set l k v)) ≡ true
 every-next test [] k v h e = refl
-every-next test (x ∷ l) zero v h e = both e refl
+every-next test (x ∷ l) zero v h e = both-true e refl
 every-next test (x ∷ l) (suc k) v h e =
-    both (left-true (test x) (every test (take k l)) h) (every-next test l k v (right-true (test x) (every test (take k l)) h) e)
+    both-true (left-true (test x) (every test (take k l)) h) (every-next test l k v (right-true (test x) (every test (take k l)) h) e)
 
 -- what follows from two tests
 every-two : {A : Type 0} (f g h : A → Bool) → ((x : A) → f x ≡ true → g x ≡ true → h x ≡ true) → (l : List A) → every f l ≡ true → every g l ≡ true → every h l ≡ true
 every-two f g h follows [] p q = refl
 every-two f g h follows (x ∷ l) p q =
-    both (follows x (left-true (f x) (every f l) p) (left-true (g x) (every g l) q))
+    both-true (follows x (left-true (f x) (every f l) p) (left-true (g x) (every g l) q))
     (every-two f g h follows l (right-true (f x) (every f l) p) (right-true (g x) (every g l) q))
 
 -- ---- What is known where open's own refusals do not hold
@@ -91,8 +91,8 @@ bidder-opens round x sound none =
 path-opens : (kind : Kind) (period : Period) (es : List Entry) (quantities : List ℕ) (i : ℕ) (p : Path) → p .zone ≤ zoneLimit → getD quantities (i * quantityWords + 1) 0 ≤ quantityLimit → soundPath 1 (openedPath kind period es quantities i p) ≡ true
 path-opens kind period es quantities i p zone upper =
     let offer = offerOf kind (quantitiesAt quantities i) (outstanding i period es) in
-    both
-    (both (both (le-leb (p .zone) zoneLimit zone) refl) (le-leb 0 offer (omega arith)))
+    both-true
+    (both-true (both-true (le-leb (p .zone) zoneLimit zone) refl) (le-leb 0 offer (omega arith)))
     (le-leb offer quantityLimit (offer-limit kind (quantitiesAt quantities i) (outstanding i period es) upper))
 
 -- a path's financial upper limit is one of the quantities that were tested
@@ -124,7 +124,7 @@ module _ (b : Book) (words : List ℕ) (kind : Kind) (period : Period) (quantiti
             (record {
               path-count = p .path-count;
               entries = p .entries;
-              stage = both (first-round kind) (can .days);
+              stage = both-true (first-round kind) (can .days);
               paths =
                   paths-open kind period es quantities (b .paths) count
                   (λ (i : ℕ) (below : i < count).

@@ -7,7 +7,7 @@ use native.Mathlib.Omega.{arith}
 use lib.IntN.{ℤ}
 use lib.ListN.{length, length-set}
 use borrow.Author.Tests.{le-leb}
-use Rattle.market.proofs.Every.{every-set}
+use Rattle.market.proofs.Every.{both-true, every-set}
 use Rattle.market.proofs.SoundLaws.{SoundParts, sound-parts, BidderBounds, AtRound}
 use Rattle.market.specs.Books.{heldOf, withBidder, withAccount}
 use Rattle.market.specs.Limits.{bidderLimit, entryLimit, moneyLimit, owedLimit, stepLimit, registerWords}
@@ -17,17 +17,14 @@ use Rattle.market.specs.declared.book.Book.{Book}
 use Rattle.register.proofs.Cleared.{Lent}
 use Rattle.keeping.specs.State.{State}
 
-pub both : {s t : Bool} → s ≡ true → t ≡ true → (s && t) ≡ true
-both p q = ap₂ _&&_ p q
-
 -- ---- A book
 
 pub sound-made : (b : Book) → SoundParts b → soundBook b ≡ true
 unfolding soundBook
 sound-made b p =
-    both
-    (both
-    (both (both (both (p .path-count) (le-leb (b .entries) entryLimit (p .entries))) (p .stage)) (p .paths))
+    both-true
+    (both-true
+    (both-true (both-true (both-true (p .path-count) (le-leb (b .entries) entryLimit (p .entries))) (p .stage)) (p .paths))
     (p .bidders))
     (p .account)
 
@@ -35,10 +32,10 @@ sound-made b p =
 
 pub bidder-made : (round : ℕ) (x : Bidder) → AtRound round x → BidderBounds x → soundBidder round x ≡ true
 bidder-made round x a p =
-    both
-    (both
-    (both
-    (both (both (both (a .one) (a .two)) (le-leb (heldOf x) moneyLimit (p .held))) (le-leb (x .letter .0) moneyLimit (p .letter)))
+    both-true
+    (both-true
+    (both-true
+    (both-true (both-true (both-true (a .one) (a .two)) (le-leb (heldOf x) moneyLimit (p .held))) (le-leb (x .letter .0) moneyLimit (p .letter)))
     (le-leb (x .hold .0) (x .letter .0) (p .hold)))
     (le-leb (x .owed .0) owedLimit (p .owed)))
     (le-leb (x .step) stepLimit (p .step))

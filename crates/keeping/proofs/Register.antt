@@ -6,6 +6,7 @@ use Prim.Native.Nat.{ℕ, _≤_}
 use native.Mathlib.Omega.{arith}
 use lib.Dec.{leb, ltb, eqb}
 use lib.ListN.{length}
+use Rattle.market.proofs.Every.{both-true}
 use Rattle.market.proofs.SoundLaws.{sound-parts}
 use Rattle.market.proofs.Tests.{left-true, right-true}
 use Rattle.market.specs.Books.{every, withEntries}
@@ -17,7 +18,7 @@ use Rattle.register.proofs.WordLaws.{written-length, entries-read}
 use Rattle.register.specs.Entries.{soundEntry, withState, issuedTo, goes, without}
 use Rattle.register.specs.Words.{entriesOf, written}
 use Rattle.register.specs.declared.Removal.{Removal}
-use Rattle.keeping.proofs.Made.{both, sound-made}
+use Rattle.keeping.proofs.Made.{sound-made}
 use Rattle.keeping.specs.State.{State}
 
 -- no more entries than before, each of them sound, written from the front
@@ -54,7 +55,7 @@ issued-state paths e h =
     && leb (e .quantity .0) quantityLimit
     && soundPeriod (e .period)
     in
-    both {s = rest} {t = true} (left-true rest (eqb (e .state) pending || eqb (e .state) issued) h) refl
+    both-true {s = rest} {t = true} (left-true rest (eqb (e .state) pending || eqb (e .state) issued) h) refl
 
 pub issued-sound : (paths bidder : ℕ) (e : Entry) → soundEntry paths e ≡ true → soundEntry paths (issuedTo bidder e) ≡ true
 issued-sound paths bidder e h = go (eqb (e .bidder) bidder)
@@ -71,4 +72,4 @@ every-without test what (e ∷ es) h =
   where
     go : (t : Bool) → test e ≡ true → every test (without what es) ≡ true → every test (cond t (without what es) (e ∷ without what es)) ≡ true
     go true first rest = rest
-    go false first rest = both first rest
+    go false first rest = both-true first rest

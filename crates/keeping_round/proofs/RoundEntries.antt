@@ -6,7 +6,7 @@ use Prim.Native.Nat.{ℕ, _+_, _≤_}
 use lib.Dec.{leb, ltb}
 use lib.ListN.{getD}
 use borrow.Author.Tests.{leb-true, le-leb, lt-ltb, ltb-true}
-use Rattle.market.proofs.Every.{every-append, every-at-any}
+use Rattle.market.proofs.Every.{both-true, every-append, every-at-any}
 use Rattle.market.proofs.Tests.{left-true, right-true}
 use Rattle.market.specs.Books.{every}
 use Rattle.market.specs.Limits.{bidderLimit, quantityLimit}
@@ -18,7 +18,6 @@ use Rattle.bids.specs.Bids.{Bid, headerOf}
 use Rattle.bids.specs.Encoding.{rightAfter}
 use Rattle.bids.specs.Faults.{soundHeader, soundLaminations, abovePrices, soundBid, hasBid, stampOf}
 use Rattle.clearing.specs.Clearing.{entryOf, ifWon, entriesFrom}
-use Rattle.keeping.proofs.Made.{both}
 
 -- what is known of the first of bids that a round takes
 pub first-right : (paths : ℕ) (earlier : List Bid) (b : Bid) (bs : List Bid) → rightAfter paths earlier (b ∷ bs) ≡ true → HeaderBounds paths (headerOf b) × (rightAfter paths (b ∷ earlier) bs ≡ true)
@@ -38,10 +37,10 @@ entry-sound paths period won b days most h = go (ltb 0 won) refl
   where
     go : (t : Bool) → ltb 0 won ≡ t → every (soundEntry paths) (cond t (entryOf period won b ∷ []) []) ≡ true
     go true e =
-        both
-        (both
-        (both
-        (both (both (both (lt-ltb (b .bidder) bidderLimit (h .bidder-below)) (lt-ltb (b .path) paths (h .path-below))) (le-leb 1 won (ltb-true 0 won e)))
+        both-true
+        (both-true
+        (both-true
+        (both-true (both-true (both-true (lt-ltb (b .bidder) bidderLimit (h .bidder-below)) (lt-ltb (b .path) paths (h .path-below))) (le-leb 1 won (ltb-true 0 won e)))
         (le-leb won quantityLimit most))
         days)
         refl)

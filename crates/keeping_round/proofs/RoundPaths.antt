@@ -10,7 +10,7 @@ use lib.ListN.{getD, take, replicate}
 use lib.Seq.{getD-take}
 use borrow.Author.Tests.{le-leb, eqb-true}
 use Rattle.market.proofs.SoundLaws.{PathBounds, path-bounds}
-use Rattle.market.proofs.Every.{every-at-any}
+use Rattle.market.proofs.Every.{both-true, every-at-any}
 use Rattle.market.proofs.Tests.{left-true, right-true}
 use Rattle.market.specs.Books.{every, _implies_, noPath}
 use Rattle.market.specs.Limits.{zoneLimit, quantityLimit, quarters}
@@ -24,7 +24,6 @@ use Rattle.offers.specs.Offers.{offeredIn}
 use Rattle.closing.specs.Closing.{withSold, soldTo}
 use Rattle.round.specs.Round.{stageAfter}
 use Rattle.keeping.proofs.KeepOpen.{every-next}
-use Rattle.keeping.proofs.Made.{both}
 
 -- ---- The stage
 
@@ -52,7 +51,7 @@ stages (Open Long round period) idle h = go (eqb round 1) refl
     days = right-true (soundRound Long round) (soundPeriod period) h
 
     after : (t : Bool) → soundStage (cond t (Open Long 2 period) Idle) ≡ true
-    after true = both refl days
+    after true = both-true refl days
     after false = refl
 
     not-one : (t : Bool) → eqb (roundOf (cond t (Open Long 2 period) Idle)) 1 ≡ false
@@ -93,8 +92,8 @@ offer-fits Long round p sound h = go (eqb round 1) refl
 path-sells : (kind : Kind) (round next : ℕ) (p : Path) (more : ℕ) → soundRound kind round ≡ true → eqb next 1 ≡ false → PathBounds round p → more ≤ offeredIn kind round p → soundPath next (withSold p more) ≡ true
 path-sells kind round next p more sound not-one h most =
     let fits = offer-fits kind round p sound h in
-    both
-    (both (both (le-leb (p .zone) zoneLimit (h .zone)) (ap (λ (t : Bool). t implies eqb (p .sold .0 + more) 0) not-one))
+    both-true
+    (both-true (both-true (le-leb (p .zone) zoneLimit (h .zone)) (ap (λ (t : Bool). t implies eqb (p .sold .0 + more) 0) not-one))
     (le-leb (p .sold .0 + more) (p .offer .0) (omega (arith, fits, most))))
     (le-leb (p .offer .0) quantityLimit (h .offer))
 

@@ -8,7 +8,7 @@ use lib.ListN.{length, getD, take, set, replicate}
 use Rattle.market.proofs.Tests.{left-true, right-true}
 use Rattle.market.specs.Books.{every}
 
-both-true : {s t : Bool} → s ≡ true → t ≡ true → (s && t) ≡ true
+pub both-true : {s t : Bool} → s ≡ true → t ≡ true → (s && t) ≡ true
 both-true p q = ap₂ _&&_ p q
 
 module _ {A : Type 0} (test : A → Bool) where

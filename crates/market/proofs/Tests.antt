@@ -1,6 +1,6 @@
 -- Laws about tests on numbers and on lists.
 use mathlib.Core.Path.{_≡_, refl, sym, _∙_, ap}
-use mathlib.Core.Bool.{Bool, true, false, _&&_, false≢true}
+use mathlib.Core.Bool.{Bool, true, false, _&&_, _||_, false≢true}
 use mathlib.Core.List.{List}
 use Prim.Native.Nat.{ℕ, _+_, _-_, _≤_, _<_}
 use native.Mathlib.Omega.{arith}
@@ -19,6 +19,11 @@ left-true false t h = h
 pub right-true : (s t : Bool) → (s && t) ≡ true → t ≡ true
 right-true true t h = h
 right-true false t h = absurd (false≢true h)
+
+-- both sides of a disjunction that does not hold
+pub neither-true : (s t : Bool) → (s || t) ≡ false → (s ≡ false) × (t ≡ false)
+neither-true true t h = absurd (false≢true (sym h))
+neither-true false t h = (refl, h)
 
 -- two orders that follow from one another test alike
 pub leb-same : (a b c d : ℕ) → (a ≤ b → c ≤ d) → (c ≤ d → a ≤ b) → leb a b ≡ leb c d

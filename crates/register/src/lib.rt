@@ -7,15 +7,15 @@ use market::engine::Engine;
 use market::units::Day;
 use market::units::Megawatts;
 ghost use mathlib.Core.Path.{_≡_};
-ghost use mathlib.Core.Bool.{true, cond};
-ghost use mathlib.Core.List.{map, _++_, _∷_, []};
+ghost use mathlib.Core.Bool.{true};
+ghost use mathlib.Core.List.{_++_, _∷_, []};
 ghost use Prim.Native.Nat.{_+_, _*_, _≤_, _<_};
 ghost use lib.Dec.{ltb};
 ghost use lib.ListN.{length};
 ghost use Rattle.market.specs.Answers.{firstOf};
 ghost use Rattle.market.specs.Books.{every, megawatts};
 ghost use Rattle.market.specs.Limits.{entryLimit, entryWords};
-ghost use Rattle.register.specs.Entries.{soundEntry, issuedTo, goes, without, countedOf, outstanding};
+ghost use Rattle.register.specs.Entries.{soundEntry, countedOf, outstanding};
 ghost use Rattle.register.specs.Refusals.{registerRefusals};
 ghost use Rattle.register.specs.Words.{entryAt, entriesOf, putAt, written};
 
@@ -44,7 +44,7 @@ pub fn read(words: &[u32], i: usize) -> Entry
 }
 
 // An entry put at a place.
-fn put(words: &mut [u32], i: usize, entry: Entry)
+pub fn put(words: &mut [u32], i: usize, entry: Entry)
     requires { ⌜ (i + 1) * entryWords ≤ length (now words) ⌝ }
     ensures { λ r. ⌜ now (words .exit) ≡ putAt (now (words .entry)) i entry ⌝ }
 {
@@ -101,67 +101,6 @@ pub fn sound_entries(words: &[u32], count: usize, paths: usize) -> bool
         }
     }
     true
-}
-
-fn issued_to(bidder: u32, entry: Entry) -> Entry
-    ensures { λ r. ⌜ r ≡ issuedTo bidder entry ⌝ }
-{
-    let mut next = entry;
-    if entry.bidder == bidder {
-        next.state = Engine::ISSUED;
-        return next;
-    }
-    next
-}
-
-// A bidder's entries are issued.
-pub fn issue(words: &mut [u32], count: usize, bidder: u32)
-    requires { ⌜ count * entryWords ≤ length (now words) ⌝ }
-    ensures { λ r. ⌜ now (words .exit) ≡ written (now (words .entry)) (map (issuedTo bidder) (entriesOf (now (words .entry)) count)) ⌝ }
-{
-    for i in 0..count {
-        let entry = issued_to(bidder, read(words, i));
-        put(words, i, entry);
-    }
-}
-
-fn is_gone(what: Removal, entry: Entry) -> bool
-    ensures { λ r. ⌜ r ≡ goes what entry ⌝ }
-{
-    let period = entry.period;
-    let last = period.last;
-    match what {
-        Removal::PendingOf(bidder) => (entry.bidder == bidder) & (entry.state == Engine::PENDING),
-        Removal::EndedBefore(day) => (entry.state == Engine::ISSUED) & (last.0 < day.0),
-    }
-}
-
-// One entry more is looked at: it is put at the end of those that stay, unless it goes. Returns how many stay.
-fn keep(words: &mut [u32], i: usize, kept: usize, what: Removal) -> usize
-    requires { ⌜ (i + 1) * entryWords ≤ length (now words) ⌝ }
-    requires { ⌜ kept ≤ i ⌝ }
-    ensures count { λ r. ⌜ r ≡ cond (goes what (entryAt (now (words .entry)) i)) kept (kept + 1) ⌝ }
-    ensures words { λ r. ⌜ now (words .exit) ≡ cond (goes what (entryAt (now (words .entry)) i)) (now (words .entry)) (putAt (now (words .entry)) kept (entryAt (now (words .entry)) i)) ⌝ }
-{
-    let entry = read(words, i);
-    if is_gone(what, entry) {
-        return kept;
-    }
-    put(words, kept, entry);
-    kept + 1
-}
-
-// The entries that are to go are removed, and the others keep their order. Returns how many stay.
-pub fn remove(words: &mut [u32], count: usize, what: Removal) -> usize
-    requires { ⌜ count * entryWords ≤ length (now words) ⌝ }
-    ensures kept { λ r. ⌜ r ≡ length (without what (entriesOf (now (words .entry)) count)) ⌝ }
-    ensures words { λ r. ⌜ now (words .exit) ≡ written (now (words .entry)) (without what (entriesOf (now (words .entry)) count)) ⌝ }
-{
-    let mut kept: usize = 0;
-    for i in 0..count {
-        kept = keep(words, i, kept, what);
-    }
-    kept
 }
 
 fn counted(path: u32, period: Period, entry: Entry) -> u32

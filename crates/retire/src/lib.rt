@@ -37,7 +37,7 @@ pub fn retire(book: Book, words: &mut [u32], day: Day) -> Outcome
         };
     }
     let count = book.entries;
-    let left = register::remove(words, count, Removal::EndedBefore(day));
+    let left = entry_changes::remove(words, count, Removal::EndedBefore(day));
     Outcome {
         answer: Answer::Done,
         book: book.with_entries(left),

@@ -18,6 +18,7 @@ use Rattle.offers.specs.Offers.{offeredIn}
 use Rattle.bids.specs.Bids.{Bid}
 use Rattle.bids.specs.Encoding.{rightBids}
 use Rattle.awards.proofs.BestAward.{sold-within-offer, own-at, known, bid-below, on-path}
+use Rattle.awards.proofs.FillLaws.{won-sold}
 use Rattle.awards.proofs.Lots.{EachAward}
 use Rattle.awards.specs.Awards.{Award, awardsOf, wonBy, soldOn, priceOn, lower}
 use Rattle.awarding.specs.Tables.{below}
@@ -32,20 +33,6 @@ every-below test zero f h = refl
 every-below test (suc n) f h = every-append test (below n f) (f n ∷ []) (every-below test n f h) (ap₂ _&&_ (h n) refl)
 
 -- ---- Sums of awards
-
--- what a bid won was sold on its path
-pub won-within-sold : (bid path : ℕ) (awards : List Award) → EachAward (λ a. a .lot .bid ≡ bid → a .lot .path ≡ path) awards → wonBy bid awards ≤ soldOn path awards
-won-within-sold bid path [] on = omega arith
-won-within-sold bid path (a ∷ awards) on =
-    omega (arith, one (eqb (a .lot .bid) bid) refl, won-within-sold bid path awards (on .1))
-  where
-    here : (t : Bool) → eqb (a .lot .path) path ≡ t → a .lot .path ≡ path → a .taken ≤ cond t (a .taken) 0
-    here true e same = omega arith
-    here false e same = absurd (eqb-false (a .lot .path) path e same)
-
-    one : (t : Bool) → eqb (a .lot .bid) bid ≡ t → cond t (a .taken) 0 ≤ cond (eqb (a .lot .path) path) (a .taken) 0
-    one true e = here (eqb (a .lot .path) path) refl (on .0 (eqb-true (a .lot .bid) bid e))
-    one false e = omega arith
 
 -- a bid past the last one won nothing
 pub none-past : (bid count : ℕ) (awards : List Award) → count ≤ bid → EachAward (λ a. a .lot .bid < count) awards → wonBy bid awards ≤ 0
@@ -98,7 +85,7 @@ module _ (paths : ℕ) (offered : List ℕ) (bids : List Bid) (marks : List ℕ)
       go false e =
           let b = getD bids bid noBid in
           let own = own-at paths offered bids marks right bid noBid (leb-false (length bids) bid e) in
-          let most = won-within-sold bid (b .path) (awardsOf offered bids marks) (on-path paths offered bids marks right bid b own) in
+          let most = won-sold bid (b .path) (awardsOf offered bids marks) (on-path paths offered bids marks right bid b own) in
           omega (arith, most, sold-quantity h (b .path))
 
   pub price-limit : (path : ℕ) → priceOn path (awardsOf offered bids marks) ≤ priceLimit

@@ -39,7 +39,7 @@ fn list_refusal(book: Book, bids: &[u32]) -> u32
     if bids.len() > Engine::BID_LIST_WORDS {
         return Refusal::BID_LIST;
     }
-    bids::refusal(bids, book.path_count)
+    bid_faults::refusal(bids, book.path_count)
 }
 
 // The refusal of a round before its awards are known; 0 where there is none.

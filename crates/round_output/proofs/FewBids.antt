@@ -7,7 +7,7 @@ use native.Mathlib.Omega.{arith}
 use lib.Dec.{leb, ltb, eqb}
 use lib.ListN.{length}
 use borrow.Author.Tests.{ltb-true, eqb-true, eqb-false, eq-eqb, ne-eqb, not-true}
-use Rattle.market.proofs.Tests.{left-true, right-true}
+use Rattle.market.proofs.Tests.{left-true, right-true, neither-true}
 use Rattle.market.specs.Limits.{bidderLimit, pathLimit, laminationLimit}
 use Rattle.awards.proofs.RoundLots.{EachBid}
 use Rattle.bids.specs.Bids.{Bid, headerOf}
@@ -33,10 +33,6 @@ abbrev without : ℕ → List ℕ → List ℕ
 without n [] = []
 without n (k ∷ l) = cond (eqb k n) l (k ∷ without n l)
 
-neither : (s t : Bool) → (s || t) ≡ false → (s ≡ false) × (t ≡ false)
-neither true t h = absurd (false≢true (sym h))
-neither false t h = (refl, h)
-
 without-length : (n : ℕ) (l : List ℕ) → length l ≤ length (without n l) + 1
 without-length n [] = omega arith
 without-length n (k ∷ l) = go (eqb k n) (without-length n l)
@@ -48,7 +44,7 @@ without-length n (k ∷ l) = go (eqb k n) (without-length n l)
 without-has : (n m : ℕ) (l : List ℕ) → has m l ≡ false → has m (without n l) ≡ false
 without-has n m [] h = refl
 without-has n m (k ∷ l) h =
-    let both = neither (eqb k m) (has m l) h in
+    let both = neither-true (eqb k m) (has m l) h in
     go (eqb k n) (both .0) (both .1) (without-has n m l (both .1))
   where
     go : (t : Bool) → eqb k m ≡ false → has m l ≡ false → has m (without n l) ≡ false → has m (cond t l (k ∷ without n l)) ≡ false
@@ -67,7 +63,7 @@ without-different n (k ∷ l) h = go (eqb k n) (without-has n k l (h .0)) (witho
 below-other : (n : ℕ) (l : List ℕ) → Below (suc n) l → has n l ≡ false → Below n l
 below-other n [] b h = tt
 below-other n (k ∷ l) b h =
-    let both = neither (eqb k n) (has n l) h in
+    let both = neither-true (eqb k n) (has n l) h in
     (let less : k < n = omega (arith, b .0, eqb-false k n (both .0)) in less, below-other n l (b .1) (both .1))
 
 without-below : (n : ℕ) (l : List ℕ) → Below (suc n) l → Different l → Below n (without n l)
@@ -118,7 +114,7 @@ key-other b c here there other =
 key-new : (b : Bid) (bs : List Bid) → Placed b → AllPlaced bs → hasBid (b .bidder) (b .path) bs ≡ false → has (keyOf b) (keys bs) ≡ false
 key-new b [] here all h = refl
 key-new b (c ∷ bs) here all h =
-    let parts = neither (eqb (c .bidder) (b .bidder) && eqb (c .path) (b .path)) (hasBid (b .bidder) (b .path) bs) h in
+    let parts = neither-true (eqb (c .bidder) (b .bidder) && eqb (c .path) (b .path)) (hasBid (b .bidder) (b .path) bs) h in
     ap (λ (t : Bool). t || has (keyOf b) (keys bs)) (key-other b c here (all .0) (parts .0)) ∙ key-new b bs here (all .1) (parts .1)
 
 keys-below : (bs : List Bid) → AllPlaced bs → Below (bidderLimit * pathLimit) (keys bs)

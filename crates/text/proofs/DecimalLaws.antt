@@ -138,7 +138,8 @@ value-snoc : (m : ℕ) (ds : List ℕ) (d : ℕ) → valueFrom m (ds ++ (d ∷ [
 value-snoc m [] d = refl
 value-snoc m (c ∷ ds) d = value-snoc (m * 10 + (c - zeroByte)) ds d
 
-value-least : (m : ℕ) (ds : List ℕ) → m ≤ valueFrom m ds
+-- digits only add to what was read before them
+pub value-least : (m : ℕ) (ds : List ℕ) → m ≤ valueFrom m ds
 value-least m [] = omega arith
 value-least m (c ∷ ds) = omega (arith, value-least (m * 10 + (c - zeroByte)) ds)
 

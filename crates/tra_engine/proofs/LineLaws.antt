@@ -1,6 +1,6 @@
 -- Laws about a line on the memory that a program keeps.
 use mathlib.Core.Path.{_≡_, refl, sym, _∙_, ap}
-use mathlib.Core.Bool.{Bool, true, false, _||_, false≢true}
+use mathlib.Core.Bool.{Bool, true, false, _||_}
 use mathlib.Core.List.{List, _++_, append-assoc}
 use Prim.Native.Nat.{ℕ, _+_, _≤_}
 use native.Mathlib.Nat.{zero-add}
@@ -9,6 +9,7 @@ use lib.Dec.{ltb}
 use lib.ListN.{length, take, drop, length-append, length-drop, take-append-drop}
 use lib.Seq.{drop-append-le, length-take-le}
 use borrow.Author.Tests.{ltb-false}
+use Rattle.market.proofs.Tests.{neither-true}
 use Rattle.market.specs.Limits.{registerWords}
 use Rattle.text.specs.Put.{putAt}
 use Rattle.book_words.specs.BookWords.{bookSize, stands}
@@ -34,11 +35,6 @@ laid-part own list n room long =
 
 -- ---- Buffers
 
--- neither of two tests holds
-neither : (s t : Bool) → (s || t) ≡ false → (s ≡ false) × (t ≡ false)
-neither true t h = absurd (false≢true (sym h))
-neither false t h = (refl, h)
-
 pub record Enough (book register room out : List ℕ) : Type 0 where
   pub words : bookSize ≤ length book
   pub entries : registerWords ≤ length register
@@ -48,9 +44,9 @@ pub record Enough (book register room out : List ℕ) : Type 0 where
 -- where none is short, each is as long as stated
 pub enough : (book register room out : List ℕ) → short book register room out ≡ false → Enough book register room out
 enough book register room out h =
-    let one = neither (ltb (length book) bookSize) (ltb (length register) registerWords || (ltb (length room) wordRoom || ltb (length out) replyRoom)) h in
-    let two = neither (ltb (length register) registerWords) (ltb (length room) wordRoom || ltb (length out) replyRoom) (one .1) in
-    let three = neither (ltb (length room) wordRoom) (ltb (length out) replyRoom) (two .1) in
+    let one = neither-true (ltb (length book) bookSize) (ltb (length register) registerWords || (ltb (length room) wordRoom || ltb (length out) replyRoom)) h in
+    let two = neither-true (ltb (length register) registerWords) (ltb (length room) wordRoom || ltb (length out) replyRoom) (one .1) in
+    let three = neither-true (ltb (length room) wordRoom) (ltb (length out) replyRoom) (two .1) in
     record {
       words = ltb-false (length book) bookSize (one .0);
       entries = ltb-false (length register) registerWords (two .0);

@@ -1,0 +1,83 @@
+use borrow.Author.Tests.{not-true, not-false}
+use borrow.Author.Needs.{needs}
+use mathlib.Core.Path.{sym}
+use Prim.Native.Nat.{_≤_, _-_}
+use Rattle.bids.proofs.BidLaws.{TestedTo, tested-none, tested-next, tested-fails, tested-all}
+use Rattle.bid_faults.proofs.sound_laminations.Statement.{statement}
+use Rattle.bid_faults.proofs.sound_laminations.Tie as tie
+
+abbrev Inv-loop : tie.InvT-loop
+Inv-loop words at count before₀ i₀ before i = (i ≤ count) × TestedTo words at count i before
+
+abbrev μ-loop : tie.MeasureT-loop
+μ-loop words at count before₀ i₀ before i = count - i
+
+add-before : tie.Need-add-before Inv-loop μ-loop
+add-before c = search needs
+
+loop-holds : tie.Need-loop-holds Inv-loop μ-loop
+loop-holds c = (search needs, let a = c .before .args in tested-none (a .words .now) (a .at) (a .count))
+
+cast-lamination-at : tie.Need-cast-lamination-at Inv-loop μ-loop
+cast-lamination-at c = search needs
+
+mul-lamination-at : tie.Need-mul-lamination-at Inv-loop μ-loop
+mul-lamination-at c = search needs
+
+add-lamination-at : tie.Need-add-lamination-at Inv-loop μ-loop
+add-lamination-at c = search needs
+
+lamination-at-requires : tie.Need-lamination-at-requires Inv-loop μ-loop
+lamination-at-requires c κs = search needs
+
+sound-lamination-requires : tie.Need-sound-lamination-requires Inv-loop μ-loop
+sound-lamination-requires c κs = search needs
+
+returns : tie.Need-returns Inv-loop μ-loop
+returns c = let a = c .before .before .before .before .before .before .before .before .args in
+    let at = c .before .before .before .before .before .before .loop in
+    let lam = c .before .before .before .before .lamination-at in
+    let test = c .before .before .sound-lamination in
+    sym
+    (tested-fails (a .words .now) (a .at) (a .count) (at .i) (at .before) (at .inv .1) (lam .result) (lam .ensures) (test .result) (test .ensures) (search needs)
+    (not-true _ (c .if1 .taken)))
+
+add-i : tie.Need-add-i Inv-loop μ-loop
+add-i c = search needs
+
+loop-less : tie.Need-loop-less Inv-loop μ-loop
+loop-less c = search needs
+
+loop-again : tie.Need-loop-again Inv-loop μ-loop
+loop-again c = let a = c .before .before .before .before .before .before .before .before .args in
+    let at = c .before .before .before .before .before .before .loop in
+    let lam = c .before .before .before .before .lamination-at in
+    let test = c .before .before .sound-lamination in (
+      search needs,
+      (tested-next (a .words .now) (a .at) (a .count) (at .i) (at .before) (at .inv .1) (lam .result) (lam .ensures) (test .result) (test .ensures) (search needs)
+          (not-false _ (c .if1 .left))),
+    )
+
+returns-2 : tie.Need-returns-2 Inv-loop μ-loop
+returns-2 c = let a = c .before .before .before .args in
+    let at = c .before .loop in
+    sym (tested-all (a .words .now) (a .at) (a .count) (at .i) (at .before) (at .inv .1) (search needs))
+
+pub sound-laminations-spec : {M : Type 1} → statement M
+sound-laminations-spec =
+    tie.close
+    (tie.spec
+    Inv-loop
+    μ-loop
+    add-before
+    loop-holds
+    cast-lamination-at
+    mul-lamination-at
+    add-lamination-at
+    lamination-at-requires
+    sound-lamination-requires
+    returns
+    add-i
+    loop-less
+    loop-again
+    returns-2)

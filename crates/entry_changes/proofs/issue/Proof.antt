@@ -1,0 +1,75 @@
+use borrow.Author.Needs.{needs}
+use mathlib.Core.Path.{_≡_, refl, _∙_, ap}
+use Prim.Native.Nat.{_≤_, _-_, ℕ}
+use native.Mathlib.Omega.{arith}
+use lib.ListN.{length}
+use mathlib.Core.List.{map}
+use Rattle.register.specs.Words.{entriesOf, written}
+use Rattle.register.specs.Entries.{issuedTo}
+use Rattle.register.proofs.EntryLaws.{change-next}
+use Rattle.entry_changes.proofs.issue.Statement.{statement}
+use Rattle.entry_changes.proofs.issue.Tie as tie
+
+abbrev Inv-loop : tie.InvT-loop
+Inv-loop words₀ count bidder i₀ words i =
+    (i ≤ count) × ((length words ≡ length words₀) × (words ≡ written words₀ (map (issuedTo bidder) (entriesOf words₀ i))))
+
+abbrev μ-loop : tie.MeasureT-loop
+μ-loop words₀ count bidder i₀ words i = count - i
+
+loop-holds : tie.Need-loop-holds Inv-loop μ-loop
+loop-holds c = (search needs, (refl, refl))
+
+read-requires : tie.Need-read-requires Inv-loop μ-loop
+read-requires c κs = search needs
+
+issued-to-requires : tie.Need-issued-to-requires Inv-loop μ-loop
+issued-to-requires c κs = search needs
+
+put-requires : tie.Need-put-requires Inv-loop μ-loop
+put-requires c κs = search needs
+
+add-i : tie.Need-add-i Inv-loop μ-loop
+add-i c = search needs
+
+loop-less : tie.Need-loop-less Inv-loop μ-loop
+loop-less c = search needs
+
+loop-again : tie.Need-loop-again Inv-loop μ-loop
+loop-again c =
+    let a = c .before .before .before .before .before .before .before .before .before .before .args in
+    let at = c .before .before .before .before .before .before .before .before .loop in
+    let f = issuedTo (a .bidder) in (
+      search needs,
+      (
+        c .before .before .put .kept .0 ∙ at .inv .1 .0,
+        c .before .before .put .ensures
+            ∙ change-next f (a .words .now) (at .i) (at .words) (c .before .before .before .before .issued-to .result) (at .inv .1 .1)
+            (c .before .before .before .before .issued-to .ensures ∙ ap f (c .before .before .before .before .before .read .ensures)),
+      ),
+    )
+
+same-length : tie.Need-same-length Inv-loop μ-loop
+same-length c = c .before .loop .inv .1 .0
+
+returns : tie.Need-returns Inv-loop μ-loop
+returns c =
+    let a = c .before .before .before .args in
+    let all : c .before .loop .i ≡ a .count = omega arith in
+    c .before .loop .inv .1 .1 ∙ ap (λ (n : ℕ). written (a .words .now) (map (issuedTo (a .bidder)) (entriesOf (a .words .now) n))) all
+
+pub issue-spec : {M : Type 1} → statement M
+issue-spec =
+    tie.close
+    (tie.spec
+    Inv-loop
+    μ-loop
+    loop-holds
+    read-requires
+    issued-to-requires
+    put-requires
+    add-i
+    loop-less
+    loop-again
+    same-length
+    returns)

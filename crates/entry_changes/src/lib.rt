@@ -1,0 +1,73 @@
+// Changes of the register's counted entries: a bidder's are issued, and those that are to go are removed.
+use market::book::Entry;
+use market::engine::Engine;
+use register::Removal;
+ghost use mathlib.Core.Path.{_≡_};
+ghost use mathlib.Core.Bool.{cond};
+ghost use mathlib.Core.List.{map};
+ghost use Prim.Native.Nat.{_+_, _*_, _≤_, _<_};
+ghost use lib.ListN.{length};
+ghost use Rattle.market.specs.Limits.{entryWords};
+ghost use Rattle.register.specs.Entries.{issuedTo, goes, without};
+ghost use Rattle.register.specs.Words.{entryAt, entriesOf, putAt, written};
+
+fn issued_to(bidder: u32, entry: Entry) -> Entry
+    ensures { λ r. ⌜ r ≡ issuedTo bidder entry ⌝ }
+{
+    let mut next = entry;
+    if entry.bidder == bidder {
+        next.state = Engine::ISSUED;
+        return next;
+    }
+    next
+}
+
+// A bidder's entries are issued.
+pub fn issue(words: &mut [u32], count: usize, bidder: u32)
+    requires { ⌜ count * entryWords ≤ length (now words) ⌝ }
+    ensures { λ r. ⌜ now (words .exit) ≡ written (now (words .entry)) (map (issuedTo bidder) (entriesOf (now (words .entry)) count)) ⌝ }
+{
+    for i in 0..count {
+        let entry = issued_to(bidder, register::read(words, i));
+        register::put(words, i, entry);
+    }
+}
+
+fn is_gone(what: Removal, entry: Entry) -> bool
+    ensures { λ r. ⌜ r ≡ goes what entry ⌝ }
+{
+    let period = entry.period;
+    let last = period.last;
+    match what {
+        Removal::PendingOf(bidder) => (entry.bidder == bidder) & (entry.state == Engine::PENDING),
+        Removal::EndedBefore(day) => (entry.state == Engine::ISSUED) & (last.0 < day.0),
+    }
+}
+
+// One entry more is looked at: it is put at the end of those that stay, unless it goes. Returns how many stay.
+fn keep(words: &mut [u32], i: usize, kept: usize, what: Removal) -> usize
+    requires { ⌜ (i + 1) * entryWords ≤ length (now words) ⌝ }
+    requires { ⌜ kept ≤ i ⌝ }
+    ensures count { λ r. ⌜ r ≡ cond (goes what (entryAt (now (words .entry)) i)) kept (kept + 1) ⌝ }
+    ensures words { λ r. ⌜ now (words .exit) ≡ cond (goes what (entryAt (now (words .entry)) i)) (now (words .entry)) (putAt (now (words .entry)) kept (entryAt (now (words .entry)) i)) ⌝ }
+{
+    let entry = register::read(words, i);
+    if is_gone(what, entry) {
+        return kept;
+    }
+    register::put(words, kept, entry);
+    kept + 1
+}
+
+// The entries that are to go are removed, and the others keep their order. Returns how many stay.
+pub fn remove(words: &mut [u32], count: usize, what: Removal) -> usize
+    requires { ⌜ count * entryWords ≤ length (now words) ⌝ }
+    ensures kept { λ r. ⌜ r ≡ length (without what (entriesOf (now (words .entry)) count)) ⌝ }
+    ensures words { λ r. ⌜ now (words .exit) ≡ written (now (words .entry)) (without what (entriesOf (now (words .entry)) count)) ⌝ }
+{
+    let mut kept: usize = 0;
+    for i in 0..count {
+        kept = keep(words, i, kept, what);
+    }
+    kept
+}

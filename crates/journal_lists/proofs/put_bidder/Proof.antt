@@ -1,0 +1,66 @@
+use borrow.Author.Needs.{needs}
+use native.Mathlib.Omega.{arith}
+use mathlib.Core.Path.{refl, sym, _∙_}
+use mathlib.Core.List.{[]}
+use Rattle.writing.proofs.PutLaws.{written-none, written-fits, written-on, written-done}
+use Rattle.journal_states.specs.States.{bidderText, bidderPart}
+use Rattle.journal_states.proofs.StateLaws.{bidder-none, bidder-some, bidder-fits}
+use Rattle.journal_lists.proofs.put_bidder.Statement.{statement}
+use Rattle.journal_lists.proofs.put_bidder.Tie as tie
+
+is-blank-requires : tie.Need-is-blank-requires
+is-blank-requires c κs = search needs
+
+returns : tie.Need-returns
+returns c =
+    let start = c .before .before .before in
+    let a = start .args in
+    let s = written-none (a .out .now) 0 (bidderPart (a .i) (a .bidder)) (omega (arith, bidder-fits (a .i) (a .bidder), start .pre)) in
+    let e = bidder-none (a .i) (a .bidder) (sym (c .before .is-blank .ensures) ∙ c .if1 .taken) in
+    let all = written-done s e in
+    (omega (arith, all .0), all .1)
+
+cast-t13 : tie.Need-cast-t13
+cast-t13 c = search needs
+
+slice-aggregate-put-last-row : tie.Need-slice-aggregate-put-last-row
+slice-aggregate-put-last-row c = search needs
+
+slice-aggregate-put-last-row-2 : tie.Need-slice-aggregate-put-last-row-2
+slice-aggregate-put-last-row-2 c = search needs
+
+put-last-row-requires : tie.Need-put-last-row-requires
+put-last-row-requires c κs =
+    let start = c .before .before .before .before .before .before .before .before .before .before .before .before in
+    let a = start .args in
+    let piece = bidderText (a .i) (a .bidder) in
+    let s = written-none (a .out .now) 0 (bidderPart (a .i) (a .bidder)) (omega (arith, bidder-fits (a .i) (a .bidder), start .pre)) in
+    let e = bidder-some (a .i) (a .bidder) (sym (c .before .before .before .before .before .before .before .before .before .before .is-blank .ensures) ∙ c .before .before .before .before .before .before .before .before .before .if1 .left) in
+    written-fits s piece [] e
+
+same-length : tie.Need-same-length
+same-length c = search needs
+
+returns-2 : tie.Need-returns-2
+returns-2 c =
+    let start = c .before .before .before .before .before .before .before .before .before .before .before .before .before .before .before in
+    let a = start .args in
+    let piece = bidderText (a .i) (a .bidder) in
+    let s = written-none (a .out .now) 0 (bidderPart (a .i) (a .bidder)) (omega (arith, bidder-fits (a .i) (a .bidder), start .pre)) in
+    let e = bidder-some (a .i) (a .bidder) (sym (c .before .before .before .before .before .before .before .before .before .before .before .before .before .is-blank .ensures) ∙ c .before .before .before .before .before .before .before .before .before .before .before .before .if1 .left) in
+    let put = c .before .before .put-last-row in
+    let all = written-done (written-on s piece [] e (put .ensures .0) (put .ensures .1)) refl in
+    (omega (arith, all .0), all .1)
+
+pub put-bidder-spec : {M : Type 1} → statement M
+put-bidder-spec =
+    tie.close
+    (tie.spec
+    is-blank-requires
+    returns
+    cast-t13
+    slice-aggregate-put-last-row
+    slice-aggregate-put-last-row-2
+    put-last-row-requires
+    same-length
+    returns-2)

@@ -1,0 +1,109 @@
+use borrow.Author.Needs.{needs}
+use mathlib.Core.Path.{refl, sym, _∙_, ap}
+use mathlib.Core.List.{[], _∷_, append-nil}
+use Rattle.market.specs.declared.book.Direction.{Direction}
+use Rattle.rows.specs.Rows.{lastRow}
+use Rattle.writing.proofs.PutLaws.{written-none, written-fits, written-on, written-done}
+use Rattle.journal_states.specs.States.{directionMark, offerText}
+use Rattle.journal_states.specs.Words as words
+use Rattle.journal_lists.proofs.put_offer.Statement.{statement}
+use Rattle.journal_lists.proofs.put_offer.Tie as tie
+
+cast-t10 : tie.Need-cast-t10
+cast-t10 c = search needs
+
+cast-t11 : tie.Need-cast-t11
+cast-t11 c = search needs
+
+cast-t12 : tie.Need-cast-t12
+cast-t12 c = search needs
+
+enum-told : tie.Need-enum-told
+enum-told c = search needs
+
+slice-aggregate-put-last-row : tie.Need-slice-aggregate-put-last-row
+slice-aggregate-put-last-row c = search needs
+
+slice-aggregate-put-last-row-2 : tie.Need-slice-aggregate-put-last-row-2
+slice-aggregate-put-last-row-2 c = search needs
+
+put-last-row-requires : tie.Need-put-last-row-requires
+put-last-row-requires c κs =
+    let start = c .before .before .before .before .before .before .before .before .before .before .before in
+    let a = start .args in
+    let p = a .path in
+    let ns = p .zone ∷ p .offer .0 ∷ p .sold .0 ∷ [] in
+    let piece = lastRow words.exportMark ns in
+    let s = written-none (a .out .now) (a .at) (offerText p) (start .pre) in
+    let e = ap (λ (d : Direction). lastRow (directionMark d) ns) (c .before .before .before .enum-told .given .1) ∙ sym (append-nil piece) in
+    written-fits s piece [] e
+
+enum-told-2 : tie.Need-enum-told-2
+enum-told-2 c = search needs
+
+slice-aggregate-put-last-row-3 : tie.Need-slice-aggregate-put-last-row-3
+slice-aggregate-put-last-row-3 c = search needs
+
+slice-aggregate-put-last-row-4 : tie.Need-slice-aggregate-put-last-row-4
+slice-aggregate-put-last-row-4 c = search needs
+
+put-last-row-requires-2 : tie.Need-put-last-row-requires-2
+put-last-row-requires-2 c κs =
+    let start = c .before .before .before .before .before .before .before .before .before .before .before in
+    let a = start .args in
+    let p = a .path in
+    let ns = p .zone ∷ p .offer .0 ∷ p .sold .0 ∷ [] in
+    let piece = lastRow words.importMark ns in
+    let s = written-none (a .out .now) (a .at) (offerText p) (start .pre) in
+    let e = ap (λ (d : Direction). lastRow (directionMark d) ns) (c .before .before .before .enum-told2 .given .1) ∙ sym (append-nil piece) in
+    written-fits s piece [] e
+
+same-length : tie.Need-same-length
+same-length c = search needs
+
+returns : tie.Need-returns
+returns c =
+    let start = c .before .before .before .before .before .before .before .before .before .before .before .before .before .before in
+    let a = start .args in
+    let p = a .path in
+    let ns = p .zone ∷ p .offer .0 ∷ p .sold .0 ∷ [] in
+    let piece = lastRow words.exportMark ns in
+    let s = written-none (a .out .now) (a .at) (offerText p) (start .pre) in
+    let e = ap (λ (d : Direction). lastRow (directionMark d) ns) (c .before .before .before .before .before .before .enum-told .given .1) ∙ sym (append-nil piece) in
+    let put = c .before .before .put-last-row in
+    written-done (written-on s piece [] e (put .ensures .0) (put .ensures .1)) refl
+
+same-length-2 : tie.Need-same-length-2
+same-length-2 c = search needs
+
+returns-2 : tie.Need-returns-2
+returns-2 c =
+    let start = c .before .before .before .before .before .before .before .before .before .before .before .before .before .before in
+    let a = start .args in
+    let p = a .path in
+    let ns = p .zone ∷ p .offer .0 ∷ p .sold .0 ∷ [] in
+    let piece = lastRow words.importMark ns in
+    let s = written-none (a .out .now) (a .at) (offerText p) (start .pre) in
+    let e = ap (λ (d : Direction). lastRow (directionMark d) ns) (c .before .before .before .before .before .before .enum-told2 .given .1) ∙ sym (append-nil piece) in
+    let put = c .before .before .put-last-row2 in
+    written-done (written-on s piece [] e (put .ensures .0) (put .ensures .1)) refl
+
+pub put-offer-spec : {M : Type 1} → statement M
+put-offer-spec =
+    tie.close
+    (tie.spec
+    cast-t10
+    cast-t11
+    cast-t12
+    enum-told
+    slice-aggregate-put-last-row
+    slice-aggregate-put-last-row-2
+    put-last-row-requires
+    enum-told-2
+    slice-aggregate-put-last-row-3
+    slice-aggregate-put-last-row-4
+    put-last-row-requires-2
+    same-length
+    returns
+    same-length-2
+    returns-2)
