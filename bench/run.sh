@@ -8,7 +8,7 @@ seconds=${1:-20}
 for tool in cc cargo; do
     command -v "$tool" > /dev/null || { echo "outside: there is no $tool (Debian's packages gcc and cargo have cc and cargo)" >&2; exit 1; }
 done
-rt staticlib tra_engine | tail -n 1
+rt staticlib tra_engine 2>&1 | tail -n 1
 
 # The header, by programs in C.
 mkdir -p target/c
@@ -23,7 +23,8 @@ echo "outside: the programs in C write the samples' outputs"
 
 # The wrapper in Rust, the second engine, and both engines side by side.
 for package in bindings/rust bench; do
-    (cd "$package" && cargo test --quiet --release --offline 2>&1) | grep -v '^$'
+    said=$(cd "$package" && cargo test --release --offline 2>&1) || { printf '%s\n' "$said"; exit 1; }
+    echo "outside: $package, $(grep -c '^test .* ok$' <<< "$said") tests in Rust"
 done
 cd bench
 cargo run --quiet --release --offline --bin compare -- "$seconds"
