@@ -6,7 +6,7 @@
  * A buffer is its address and how many elements it has. Addresses are not null, are aligned for their elements, and no two
  * buffers overlap; a length is the true one. Nothing can test these three for a caller in C. The functions keep nothing between
  * calls and use no memory but what is lent and the stack. How much stack is tried and not proved: on x86-64, 256 kB were enough for
- * hundreds of random sheets and journals and for the largest sheets, and 192 kB were not; TRA_STACK_BYTES leaves room. */
+ * 300 random sheets, 60 random journals and the largest sheets, and 192 kB were not; TRA_STACK_BYTES leaves room. */
 #ifndef TRA_H
 #define TRA_H
 
