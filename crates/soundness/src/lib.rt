@@ -7,11 +7,12 @@ use market::book::Period;
 use market::book::Stage;
 use market::engine::Engine;
 ghost use mathlib.Core.Path.{_≡_};
+ghost use mathlib.Core.Bool.{_&&_};
 ghost use Prim.Native.Nat.{_+_, _≤_};
-ghost use lib.Dec.{leb};
+ghost use lib.Dec.{leb, eqb};
 ghost use lib.ListN.{take};
-ghost use Rattle.market.specs.Books.{every, noValue};
-ghost use Rattle.market.specs.Limits.{pathLimit};
+ghost use Rattle.market.specs.Books.{every, _implies_, noValue};
+ghost use Rattle.market.specs.Limits.{pathLimit, roundTwoOwedLimit};
 ghost use Rattle.market.specs.Sound.{soundRound, soundPeriod, soundStage, isIdle, roundOf, soundPath, soundBidder, soundBook};
 
 // Whether a sum is within a limit; the sum itself may be too large for a word.
@@ -109,19 +110,33 @@ fn sound_paths(round: u32, paths: [Path; Engine::PATHS], count: usize) -> bool
     true
 }
 
+// What the next round asks of a bidder besides.
+fn fits_round(round: u32, bidder: Bidder) -> bool
+    ensures { λ r. ⌜ r ≡ ((eqb round 1 implies noValue bidder) && (eqb round 2 implies leb (bidder .owed .0) roundTwoOwedLimit)) ⌝ }
+{
+    let owed = bidder.owed;
+    if round == 1 {
+        return no_value(bidder);
+    }
+    if round == 2 {
+        return owed.0 <= Engine::ROUND_TWO_OWED_LIMIT;
+    }
+    true
+}
+
 fn sound_bidder(round: u32, bidder: Bidder) -> bool
     ensures { λ r. ⌜ r ≡ soundBidder round bidder ⌝ }
 {
+    if !fits_round(round, bidder) {
+        return false;
+    }
     let cash = bidder.cash;
     let applied = bidder.applied;
     let letter = bidder.letter;
     let hold = bidder.hold;
     let owed = bidder.owed;
-    let valueless = no_value(bidder);
     let held = sum_within(cash.0, applied.0, Engine::MONEY_LIMIT);
-    ((round != 1) | valueless)
-        & ((round != 2) | (owed.0 <= Engine::ROUND_TWO_OWED_LIMIT))
-        & held
+    held
         & (letter.0 <= Engine::MONEY_LIMIT)
         & (hold.0 <= letter.0)
         & (owed.0 <= Engine::OWED_LIMIT)

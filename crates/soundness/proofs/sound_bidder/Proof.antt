@@ -1,15 +1,27 @@
 use borrow.Author.Needs.{needs}
+use borrow.Author.Tests.{not-true, not-false}
+use mathlib.Core.Path.{sym, _∙_}
+use Rattle.soundness.proofs.RoundLaws.{unfit, fit}
 use Rattle.soundness.proofs.sound_bidder.Statement.{statement}
 use Rattle.soundness.proofs.sound_bidder.Tie as tie
 
-no-value-requires : tie.Need-no-value-requires
-no-value-requires c κs = search needs
+fits-round-requires : tie.Need-fits-round-requires
+fits-round-requires c κs = search needs
+
+returns : tie.Need-returns
+returns c =
+    let a = c .before .before .args in
+    unfit (a .bidder) (a .round) (sym (c .before .fits-round .ensures) ∙ not-true _ (c .if1 .taken))
 
 sum-within-requires : tie.Need-sum-within-requires
 sum-within-requires c κs = search needs
 
-returns : tie.Need-returns
-returns c = rw (c .before .before .before .before .before .before .before .no-value .ensures, c .before .before .before .before .before .before .sum-within .ensures)
+returns-2 : tie.Need-returns-2
+returns-2 c =
+    let tested = c .before .before .before .before .before .before .before .before .before .before .before in
+    let a = tested .before .before .args in
+    let sum = c .before .before .before .before .before .sum-within in
+    fit (a .bidder) (a .round) (sym (tested .before .fits-round .ensures) ∙ not-false _ (tested .if1 .left)) (sum .result) (sum .ensures)
 
 pub sound-bidder-spec : {M : Type 1} → statement M
-sound-bidder-spec = tie.close (tie.spec no-value-requires sum-within-requires returns)
+sound-bidder-spec = tie.close (tie.spec fits-round-requires returns sum-within-requires returns-2)

@@ -1,0 +1,2 @@
+-- Laws about sound books.
+pub mod RoundLaws

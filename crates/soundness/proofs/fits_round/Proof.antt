@@ -1,0 +1,26 @@
+use borrow.Author.Needs.{needs}
+use mathlib.Core.Path.{_∙_}
+use Rattle.soundness.proofs.RoundLaws.{at-first, at-second, at-neither}
+use Rattle.soundness.proofs.fits_round.Statement.{statement}
+use Rattle.soundness.proofs.fits_round.Tie as tie
+
+no-value-requires : tie.Need-no-value-requires
+no-value-requires c κs = search needs
+
+returns : tie.Need-returns
+returns c =
+    let a = c .before .before .before .args in
+    c .no-value .ensures ∙ at-first (a .bidder) (a .round) (c .before .if1 .taken)
+
+returns-2 : tie.Need-returns-2
+returns-2 c =
+    let a = c .before .before .before .before .args in
+    at-second (a .bidder) (a .round) (c .before .if2 .taken)
+
+returns-3 : tie.Need-returns-3
+returns-3 c =
+    let a = c .before .before .before .args in
+    at-neither (a .bidder) (a .round) (c .before .if1 .left) (c .if2 .left)
+
+pub fits-round-spec : {M : Type 1} → statement M
+fits-round-spec = tie.close (tie.spec no-value-requires returns returns-2 returns-3)
