@@ -23,7 +23,7 @@ use Rattle.market.specs.declared.book.Kind.the-variants.{Short, Long}
 use Rattle.market.specs.declared.book.Stage.{Stage}
 use Rattle.market.specs.declared.book.Stage.the-variants.{Idle, Open}
 use Rattle.text.specs.Put.{putAt}
-use Rattle.book_words.specs.BookWords.{frontSize, pathSize, bidderSize, biddersFrom, bookSize, directionNumber, kindNumber, pathWords, bidderWords, stageWords, frontWords, each, bookWords, narrow, directionIn, kindIn, stageAt, gathered, pathIn, bidderIn, bookIn, sameWords, standsFor, stands, fits32, fitsPath, fitsBidder, fitsStage, FitsBook}
+use Rattle.book_words.specs.BookWords.{frontSize, pathSize, bidderSize, biddersFrom, bookSize, directionNumber, kindNumber, pathWords, bidderWords, stageWords, frontWords, each, bookWords, narrow, directionIn, kindIn, stageAt, gathered, pathIn, bidderIn, bookIn, sameWords, stands, fits32, fitsPath, fitsBidder, fitsStage, FitsBook}
 use Rattle.book_words.proofs.WordLaws.{front-length, up-to-paths, book-length, laid-whole}
 
 -- ---- Numbers
@@ -179,7 +179,7 @@ module _ (b : Book) (fits : FitsBook b) (words : List ℕ) where
 
 -- ---- Words that stand
 
-same-self : (xs : List ℕ) → sameWords xs xs ≡ true
+pub same-self : (xs : List ℕ) → sameWords xs xs ≡ true
 same-self [] = refl
 same-self (x ∷ xs) = ap₂ _&&_ (eq-eqb x x refl) (same-self xs)
 
@@ -195,14 +195,9 @@ pub words-account : (b : Book) (account : ℤ) → bookWords (withAccount b acco
 unfolding bookWords
 words-account b account = refl
 
--- so whether words stand is the same with any account
-pub stands-with : (words : List ℕ) (account : ℤ) → standsFor words (bookIn words account) ≡ stands words
-unfolding stands standsFor bookIn bookWords
-stands-with words account = refl
-
 -- the words of a book that they can hold stand, wherever they are laid
 pub laid-stands : (b : Book) → FitsBook b → (words : List ℕ) → stands (putAt words 0 (bookWords b)) ≡ true
-unfolding stands standsFor
+unfolding stands
 laid-stands b fits words =
     let laid = putAt words 0 (bookWords b) in
     ap₂ sameWords (take-at (bookWords b) (drop (0 + length (bookWords b)) words) bookSize (book-length b (fits .paths) (fits .bidders)))
@@ -211,7 +206,7 @@ laid-stands b fits words =
 
 -- the book that standing words are read as, laid in them again, changes nothing
 pub stands-laid : (words : List ℕ) (account : ℤ) → bookSize ≤ length words → stands words ≡ true → putAt words 0 (bookWords (bookIn words account)) ≡ words
-unfolding stands standsFor bookIn bookWords
+unfolding stands bookIn bookWords
 stands-laid words account room h =
     let own = bookWords (bookIn words account) in
     let is : take bookSize words ≡ own = same-true (take bookSize words) own h in

@@ -1,14 +1,11 @@
 -- Laws about slots that a loop gathers from words, about words that it lays one behind another, and about the words of a book.
 use mathlib.Core.Path.{_≡_, refl, sym, _∙_, ap, ap₂}
-use mathlib.Core.Bool.{Bool, true, false, _&&_}
 use mathlib.Core.List.{List, [], _∷_, _++_, append-assoc, append-nil}
 use Prim.Native.Nat.{ℕ, zero, suc, _+_, _*_, _-_, _≤_, _<_}
 use native.Mathlib.Numerals.{add-one}
 use native.Mathlib.Omega.{arith}
-use lib.Dec.{eqb}
-use lib.ListN.{length, getD, take, drop, set, replicate, length-append, drop-of-length-le}
-use lib.Seq.{sets-eq, take-suc, take-all, drop-cons, length-take-le}
-use borrow.Author.Tests.{eq-eqb, ne-eqb}
+use lib.ListN.{length, getD, take, set, replicate, length-append, drop-of-length-le}
+use lib.Seq.{sets-eq, take-suc, take-all, length-take-le}
 use Rattle.market.proofs.Filled.{fill-snoc}
 use Rattle.market.specs.Limits.{pathLimit, bidderLimit}
 use Rattle.market.specs.declared.book.Book.{Book}
@@ -17,7 +14,7 @@ use Rattle.market.specs.declared.book.Stage.the-variants.{Idle, Open}
 use Rattle.text.specs.Put.{putAt}
 use Rattle.text.proofs.PutLaws.{put-none}
 use Rattle.writing.proofs.PutLaws.{put-behind}
-use Rattle.book_words.specs.BookWords.{frontSize, pathSize, bidderSize, biddersFrom, bookSize, pathWords, bidderWords, stageWords, frontWords, each, bookWords, gathered, sameWords}
+use Rattle.book_words.specs.BookWords.{frontSize, pathSize, bidderSize, biddersFrom, bookSize, pathWords, bidderWords, stageWords, frontWords, each, bookWords, gathered}
 
 -- ---- Slots gathered one by one, where others fill the list up to `n`
 
@@ -53,7 +50,7 @@ module _ {X : Type 0} (words : X → List ℕ) (size : ℕ) (sized : (x : X) →
       ∙ ap₂ _+_ (sized x) (each-length xs)
       ∙ (let more : size + length xs * size ≡ suc (length xs) * size = omega arith in more)
 
-  each-snoc : (xs : List X) (x : X) → each words (xs ++ (x ∷ [])) ≡ each words xs ++ words x
+  pub each-snoc : (xs : List X) (x : X) → each words (xs ++ (x ∷ [])) ≡ each words xs ++ words x
   each-snoc [] x = append-nil (words x)
   each-snoc (y ∷ xs) x = ap (words y ++_) (each-snoc xs x) ∙ sym (append-assoc (words y) (each words xs) (words x))
 
@@ -134,41 +131,3 @@ module _ (b : Book) (paths : length (b .paths) ≡ pathLimit) (bidders : length 
         ∙ ap (λ (n : ℕ). putAt (putAt words 0 upToPaths) n (each bidderWords (b .bidders))) (let at : biddersFrom ≡ 0 + length upToPaths = omega (arith, up-to-paths) in at)
         ∙ put-behind words 0 upToPaths (each bidderWords (b .bidders)) (omega (arith, up-to-paths))
         ∙ ap (putAt words 0) parts
-
--- ---- Two lists of words compared from the front
-
--- lists of two lengths are not the same
-pub lengths-differ : (xs ys : List ℕ) → (length xs ≡ length ys → ⊥) → sameWords xs ys ≡ false
-lengths-differ [] [] h = absurd (h refl)
-lengths-differ [] (y ∷ ys) h = refl
-lengths-differ (x ∷ xs) [] h = refl
-lengths-differ (x ∷ xs) (y ∷ ys) h =
-    ap (eqb x y &&_) (lengths-differ xs ys (λ e. h (ap suc e))) ∙ and-false (eqb x y)
-  where
-    and-false : (t : Bool) → (t && false) ≡ false
-    and-false true = refl
-    and-false false = refl
-
-module _ (xs ys : List ℕ) (i : ℕ) (long : length xs ≡ length ys) where
-  here : i < length xs → sameWords (drop i xs) (drop i ys) ≡ (eqb (getD xs i 0) (getD ys i 0) && sameWords (drop (i + 1) xs) (drop (i + 1) ys))
-  here below =
-      ap₂ sameWords (drop-cons xs i 0 below) (drop-cons ys i 0 (omega arith))
-      ∙ ap (λ (k : ℕ). eqb (getD xs i 0) (getD ys i 0) && sameWords (drop k xs) (drop k ys)) (sym (add-one i))
-
-  -- the words before a place are the same, and so is the word there
-  pub same-next : i < length xs → sameWords xs ys ≡ sameWords (drop i xs) (drop i ys) → getD xs i 0 ≡ getD ys i 0 → sameWords xs ys ≡ sameWords (drop (i + 1) xs) (drop (i + 1) ys)
-  same-next below so e =
-      so
-      ∙ here below
-      ∙ ap (λ (t : Bool). t && sameWords (drop (i + 1) xs) (drop (i + 1) ys)) (eq-eqb (getD xs i 0) (getD ys i 0) e)
-
-  -- or it differs
-  pub word-differs : i < length xs → sameWords xs ys ≡ sameWords (drop i xs) (drop i ys) → (getD xs i 0 ≡ getD ys i 0 → ⊥) → sameWords xs ys ≡ false
-  word-differs below so e =
-      so
-      ∙ here below
-      ∙ ap (λ (t : Bool). t && sameWords (drop (i + 1) xs) (drop (i + 1) ys)) (ne-eqb (getD xs i 0) (getD ys i 0) e)
-
-  -- all of them are the same
-  pub all-same : length xs ≤ i → sameWords xs ys ≡ sameWords (drop i xs) (drop i ys) → sameWords xs ys ≡ true
-  all-same end so = so ∙ ap₂ sameWords (drop-of-length-le xs end) (drop-of-length-le ys (let past : length ys ≤ i = omega arith in past))

@@ -152,13 +152,9 @@ sameWords [] (y ∷ ys) = false
 sameWords (x ∷ xs) [] = false
 sameWords (x ∷ xs) (y ∷ ys) = eqb x y && sameWords xs ys
 
--- the first words are those of a book
-unfoldable pub standsFor : List ℕ → Book → Bool
-standsFor words b = sameWords (take bookSize words) (bookWords b)
-
 -- the first words are those of the book that they are read as, so that no part of them is lost when they are read; the account is not among them
 unfoldable pub stands : List ℕ → Bool
-stands words = standsFor words (bookIn words (pos 0))
+stands words = sameWords (take bookSize words) (bookWords (bookIn words (pos 0)))
 
 -- ---- A book that words can hold: it has just the slots, and its numbers fit their fields
 

@@ -8,13 +8,9 @@ use replay::LINE_BYTES;
 use replay::REPLY_ROOM;
 use replay::WORD_ROOM;
 ghost use mathlib.Core.Path.{_≡_};
-ghost use Prim.Native.Nat.{_≤_};
-ghost use lib.ListN.{length};
 ghost use Rattle.market.specs.Limits.{release, ruleEdition};
 ghost use Rattle.desk.specs.Desk.{answerTo, bufferAfter};
-ghost use Rattle.book_words.specs.BookWords.{bookSize, FitsBook};
-ghost use Rattle.journal_answers.specs.Answers.{replyRoom};
-ghost use Rattle.replay.specs.Replay.{wordRoom, lineStep};
+ghost use Rattle.kept_lines.specs.KeptLines as kept;
 ghost use Rattle.tra_engine.specs.Library as rules;
 
 // The engine's release.
@@ -52,7 +48,7 @@ pub extern "C" fn tra_sheet(sheet: &[u8], out: &mut [u8], used: &mut usize) -> u
 
 // A line as it is taken: a longer one than a line may be as the empty one.
 fn taken(line: &[u8]) -> &[u8]
-    ensures { λ r. ⌜ now r ≡ rules.taken (now (line .entry)) ⌝ }
+    ensures { λ r. ⌜ now r ≡ kept.taken (now (line .entry)) ⌝ }
 {
     if LINE_BYTES < line.len() {
         return &line[..0];
@@ -62,46 +58,11 @@ fn taken(line: &[u8]) -> &[u8]
 
 // Whether a buffer is shorter than stated.
 fn short(book: &[u64], register: &[u32], room: &[u32], out: &[u8]) -> bool
-    ensures { λ r. ⌜ r ≡ rules.short (now (book .entry)) (now (register .entry)) (now (room .entry)) (now (out .entry)) ⌝ }
+    ensures { λ r. ⌜ r ≡ kept.short (now (book .entry)) (now (register .entry)) (now (room .entry)) (now (out .entry)) ⌝ }
 {
     (book.len() < BOOK_WORDS)
         | ((register.len() < Engine::REGISTER_WORDS)
             | ((room.len() < WORD_ROOM) | (out.len() < REPLY_ROOM)))
-}
-
-// A line run on a journal whose book the words hold; the buffers are as long as stated.
-fn run(
-    journal: Journal,
-    book: &mut [u64],
-    account: &mut i64,
-    register: &mut [u32],
-    line: &[u8],
-    room: &mut [u32],
-    out: &mut [u8],
-    used: &mut usize,
-)
-    requires { ⌜ bookSize ≤ length (now book) ⌝ }
-    requires { ⌜ wordRoom ≤ length (now room) ⌝ }
-    requires { ⌜ replyRoom ≤ length (now out) ⌝ }
-    ensures memory { λ r. ⌜ rules.lent (now (book .exit)) (now (account .exit)) (now (register .exit)) (now (room .exit)) (now (out .exit)) (now (used .exit)) ≡ rules.leftBy (rules.lent (now (book .entry)) (now (account .entry)) (now (register .entry)) (now (room .entry)) (now (out .entry)) (now (used .entry))) (now (line .entry)) (lineStep journal (now (register .entry)) (now (line .entry))) ⌝ }
-    ensures fits { λ r. ⌜ FitsBook (lineStep journal (now (register .entry)) (now (line .entry)) .journal .book) ⌝ }
-{
-    let mut prices = [0i64; Engine::ZONES];
-    let replied = replay::answer_line(
-        journal,
-        register,
-        line,
-        &mut room[..WORD_ROOM],
-        &mut prices,
-        out,
-    );
-    let after = replied.journal;
-    let held = after.book;
-    let balance = held.account;
-    let amount = balance.0;
-    book_words::lay_book(book, held);
-    *account = amount;
-    *used = replied.used;
 }
 
 // One line of a journal, without its byte 10, on the state that the program keeps: the book's words, the account and the register. What is printed
@@ -117,20 +78,20 @@ pub extern "C" fn tra_line(
     out: &mut [u8],
     used: &mut usize,
 ) -> u32
-    ensures number { λ r. ⌜ r ≡ rules.lineOn (rules.lent (now (book .entry)) (now (account .entry)) (now (register .entry)) (now (room .entry)) (now (out .entry)) (now (used .entry))) (now (line .entry)) .number ⌝ }
-    ensures memory { λ r. ⌜ rules.lent (now (book .exit)) (now (account .exit)) (now (register .exit)) (now (room .exit)) (now (out .exit)) (now (used .exit)) ≡ rules.lineOn (rules.lent (now (book .entry)) (now (account .entry)) (now (register .entry)) (now (room .entry)) (now (out .entry)) (now (used .entry))) (now (line .entry)) .memory ⌝ }
-    ensures state { λ r. ⌜ (r ≡ 0 → rules.HeldIn (now (book .exit)) (now (account .exit)) (rules.stepOn (rules.lent (now (book .entry)) (now (account .entry)) (now (register .entry)) (now (room .entry)) (now (out .entry)) (now (used .entry))) (rules.taken (now (line .entry))) .journal)) ⌝ }
+    ensures number { λ r. ⌜ r ≡ kept.lineOn (kept.lent (now (book .entry)) (now (account .entry)) (now (register .entry)) (now (room .entry)) (now (out .entry)) (now (used .entry))) (now (line .entry)) .number ⌝ }
+    ensures memory { λ r. ⌜ kept.lent (now (book .exit)) (now (account .exit)) (now (register .exit)) (now (room .exit)) (now (out .exit)) (now (used .exit)) ≡ kept.lineOn (kept.lent (now (book .entry)) (now (account .entry)) (now (register .entry)) (now (room .entry)) (now (out .entry)) (now (used .entry))) (now (line .entry)) .memory ⌝ }
+    ensures state { λ r. ⌜ (r ≡ 0 → kept.HeldIn (now (book .exit)) (now (account .exit)) (kept.stepOn (kept.lent (now (book .entry)) (now (account .entry)) (now (register .entry)) (now (room .entry)) (now (out .entry)) (now (used .entry))) (kept.taken (now (line .entry))) .journal)) ⌝ }
 {
     if short(book, register, room, out) {
         return Refusal::SHORT_BUFFER;
     }
-    let balance = *account;
-    let held = book_words::book_in(book, balance);
-    if !book_words::stands_for(book, held) {
+    if !book_standing::stand(book) {
         return Refusal::UNSOUND;
     }
+    let balance = *account;
+    let held = book_words::book_in(book, balance);
     let ready = held.path_count != 0;
-    run(
+    kept_lines::run(
         Journal { ready, book: held },
         book,
         account,

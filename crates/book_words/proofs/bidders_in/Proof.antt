@@ -2,9 +2,10 @@ use mathlib.Core.List.{List}
 use lib.ListN.{set}
 use Rattle.market.specs.declared.book.Bidder.{Bidder}
 use borrow.Author.Needs.{needs}
-use mathlib.Core.Path.{_≡_, _∙_, ap}
+use mathlib.Core.Path.{_≡_, refl, _∙_, ap}
 use Prim.Native.Nat.{_≤_, _-_}
 use native.Mathlib.Omega.{arith}
+use Rattle.market.specs.Books.{noBidder}
 use Rattle.market.specs.Limits.{bidderLimit}
 use Rattle.book_words.specs.BookWords.{bidderIn}
 use Rattle.book_words.proofs.WordLaws.{gatheredTo, gather-next, all-gathered}
@@ -12,16 +13,13 @@ use Rattle.book_words.proofs.bidders_in.Statement.{statement}
 use Rattle.book_words.proofs.bidders_in.Tie as tie
 
 abbrev Inv-loop : tie.InvT-loop
-Inv-loop words bidders₀ i₀ bidders i = (i ≤ bidderLimit) × (bidders ≡ gatheredTo (bidderIn words) bidderLimit (bidderIn words 0) i)
+Inv-loop words bidders₀ i₀ bidders i = (i ≤ bidderLimit) × (bidders ≡ gatheredTo (bidderIn words) bidderLimit noBidder i)
 
 abbrev μ-loop : tie.MeasureT-loop
 μ-loop words bidders₀ i₀ bidders i = bidderLimit - i
 
-bidder-at-requires : tie.Need-bidder-at-requires Inv-loop μ-loop
-bidder-at-requires c κs = search needs
-
 loop-holds : tie.Need-loop-holds Inv-loop μ-loop
-loop-holds c = (search needs, rw (c .bidder-at .ensures))
+loop-holds c = (search needs, refl)
 
 mul-bidder-at : tie.Need-mul-bidder-at Inv-loop μ-loop
 mul-bidder-at c = search needs
@@ -29,8 +27,8 @@ mul-bidder-at c = search needs
 add-bidder-at : tie.Need-add-bidder-at Inv-loop μ-loop
 add-bidder-at c = search needs
 
-bidder-at-requires-2 : tie.Need-bidder-at-requires-2 Inv-loop μ-loop
-bidder-at-requires-2 c κs = search needs
+bidder-at-requires : tie.Need-bidder-at-requires Inv-loop μ-loop
+bidder-at-requires c κs = search needs
 
 mul-bidders : tie.Need-mul-bidders Inv-loop μ-loop
 mul-bidders c = search needs
@@ -46,20 +44,20 @@ loop-less c = search needs
 
 loop-again : tie.Need-loop-again Inv-loop μ-loop
 loop-again c =
-    let words = c .before .before .before .before .before .args .words .now in
+    let words = c .before .before .before .before .args .words .now in
     let to = c .before .before .loop in
-    let more = c .bidder-at2 in (
+    let more = c .bidder-at in (
       search needs,
       ap (λ (l : List Bidder). set l (to .i) (more .result)) (to .inv .1)
-          ∙ gather-next (bidderIn words) bidderLimit (bidderIn words 0) (to .i) (more .result) (search needs) (more .ensures),
+          ∙ gather-next (bidderIn words) bidderLimit noBidder (to .i) (more .result) (search needs) (more .ensures),
     )
 
 returns : tie.Need-returns Inv-loop μ-loop
 returns c =
-    let words = c .before .before .before .before .args .words .now in
+    let words = c .before .before .before .args .words .now in
     let to = c .before .loop in
     let all : to .i ≡ bidderLimit = omega arith in
-    to .inv .1 ∙ all-gathered (bidderIn words) bidderLimit (bidderIn words 0) (to .i) all
+    to .inv .1 ∙ all-gathered (bidderIn words) bidderLimit noBidder (to .i) all
 
 pub bidders-in-spec : {M : Type 1} → statement M
 bidders-in-spec =
@@ -67,11 +65,10 @@ bidders-in-spec =
     (tie.spec
     Inv-loop
     μ-loop
-    bidder-at-requires
     loop-holds
     mul-bidder-at
     add-bidder-at
-    bidder-at-requires-2
+    bidder-at-requires
     mul-bidders
     array-set-from-bidders
     add-i

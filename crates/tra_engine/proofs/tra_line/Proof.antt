@@ -6,12 +6,11 @@ use mathlib.Core.Path.{sym, _∙_, ap, subst}
 use mathlib.Core.List.{List}
 use Prim.Native.Nat.{ℕ}
 use Rattle.market.specs.declared.book.Book.{Book}
-use Rattle.book_words.specs.BookWords.{bookIn, standsFor, FitsBook}
-use Rattle.book_words.proofs.ReadBack.{stands-with}
+use Rattle.book_words.specs.BookWords.{bookIn, FitsBook}
 use Rattle.replay.specs.Replay.{lineStep}
-use Rattle.tra_engine.specs.Library.{Memory, Returned, lent, journalOf, HeldIn, stepOn, leftBy, taken}
-use Rattle.tra_engine.proofs.JournalLaws.{line-held}
-use Rattle.tra_engine.proofs.LineLaws.{enough, line-short, line-unsound, line-run}
+use Rattle.kept_lines.specs.KeptLines.{Memory, Returned, lent, journalOf, HeldIn, stepOn, leftBy, taken}
+use Rattle.kept_lines.proofs.JournalLaws.{line-held}
+use Rattle.kept_lines.proofs.LineLaws.{enough, line-short, line-unsound, line-run}
 use borrow.Author.Needs.{needs}
 use Rattle.tra_engine.proofs.tra_line.Statement.{statement}
 use Rattle.tra_engine.proofs.tra_line.Tie as tie
@@ -38,15 +37,10 @@ returns c =
     let is = line-short m (a .line .now) (sym (c .before .short .ensures) ∙ c .if1 .taken) in
     (ap (λ (x : Returned). x .number) is, (ap (λ (x : Returned). x .memory) is, λ e. absurd (let never : ⊥ = omega (arith, e) in never)))
 
-book-in-requires : tie.Need-book-in-requires
-book-in-requires c κs =
-    let a = c .before .before .before .before .before .before .before .before .before .before .before .before .before .args in
-    enough (a .book .now) (a .register .now) (a .room .now) (a .out .now) (sym (c .before .before .before .short .ensures) ∙ c .before .before .if1 .left) .words
-
-stands-for-requires : tie.Need-stands-for-requires
-stands-for-requires c κs =
-    let a = c .before .before .before .before .before .before .before .before .before .before .before .before .before .before .before .args in
-    enough (a .book .now) (a .register .now) (a .room .now) (a .out .now) (sym (c .before .before .before .before .before .short .ensures) ∙ c .before .before .before .before .if1 .left) .words
+stand-requires : tie.Need-stand-requires
+stand-requires c κs =
+    let a = c .before .before .before .before .before .before .before .before .before .before .before .before .args in
+    enough (a .book .now) (a .register .now) (a .room .now) (a .out .now) (sym (c .before .before .short .ensures) ∙ c .before .if1 .left) .words
 
 same-length-5 : tie.Need-same-length-5
 same-length-5 c = search needs
@@ -62,14 +56,17 @@ same-length-8 c = search needs
 
 returns-2 : tie.Need-returns-2
 returns-2 c =
-    let a = c .before .before .before .before .before .before .before .before .before .before .before .before .before .before .before .before .before .args in
+    let a = c .before .before .before .before .before .before .before .before .before .before .before .before .before .before .args in
     let m = lent (a .book .now) (a .account .now) (a .register .now) (a .room .now) (a .out .now) (a .used .now) in
-    let stood = c .before .stands-for in
-    let held = c .before .before .before .book-in in
-    let is-held = held .ensures ∙ ap (bookIn (a .book .now)) (toZ-ofZ {w = w64} {z = a .account .now} (record { sfits = c .before .before .before .before .before .balance .given })) in
-    let fails = sym (stands-with (a .book .now) (a .account .now)) ∙ ap (standsFor (a .book .now)) (sym is-held) ∙ sym (stood .ensures) ∙ not-true (stood .result) (c .if2 .taken) in
-    let is = line-unsound m (a .line .now) (sym (c .before .before .before .before .before .before .before .short .ensures) ∙ c .before .before .before .before .before .before .if1 .left) fails in
+    let stood = c .before .stand in
+    let fails = sym (stood .ensures) ∙ not-true (stood .result) (c .if2 .taken) in
+    let is = line-unsound m (a .line .now) (sym (c .before .before .before .before .short .ensures) ∙ c .before .before .before .if1 .left) fails in
     (ap (λ (x : Returned). x .number) is, (ap (λ (x : Returned). x .memory) is, λ e. absurd (let never : ⊥ = omega (arith, e) in never)))
+
+book-in-requires : tie.Need-book-in-requires
+book-in-requires c κs =
+    let a = c .before .before .before .before .before .before .before .before .before .before .before .before .before .before .before .before .args in
+    enough (a .book .now) (a .register .now) (a .room .now) (a .out .now) (sym (c .before .before .before .before .before .before .short .ensures) ∙ c .before .before .before .before .before .if1 .left) .words
 
 taken-requires : tie.Need-taken-requires
 taken-requires c κs = search needs
@@ -98,11 +95,11 @@ returns-3 c =
     let m = lent (a .book .now) (a .account .now) (a .register .now) (a .room .now) (a .out .now) (a .used .now) in
     let line = a .line .now in
     let register = a .register .now in
-    let stood = c .before .before .before .before .before .before .before .before .before .before .before .before .before .before .before .before .before .before .stands-for in
-    let held = c .before .before .before .before .before .before .before .before .before .before .before .before .before .before .before .before .before .before .before .before .book-in in
-    let is-held = held .ensures ∙ ap (bookIn (a .book .now)) (toZ-ofZ {w = w64} {z = a .account .now} (record { sfits = c .before .before .before .before .before .before .before .before .before .before .before .before .before .before .before .before .before .before .before .before .before .before .balance .given })) in
+    let stood = c .before .before .before .before .before .before .before .before .before .before .before .before .before .before .before .before .before .before .before .before .before .stand in
+    let held = c .before .before .before .before .before .before .before .before .before .before .before .before .before .before .before .before .before .book-in in
+    let is-held = held .ensures ∙ ap (bookIn (a .book .now)) (toZ-ofZ {w = w64} {z = a .account .now} (record { sfits = c .before .before .before .before .before .before .before .before .before .before .before .before .before .before .before .before .before .before .before .balance .given })) in
     let cut = c .before .before .before .before .before .before .before .before .before .before .before .before .taken in
-    let holds = sym (stands-with (a .book .now) (a .account .now)) ∙ ap (standsFor (a .book .now)) (sym is-held) ∙ sym (stood .ensures) ∙ not-false (stood .result) (c .before .before .before .before .before .before .before .before .before .before .before .before .before .before .before .before .before .if2 .left) in
+    let holds = sym (stood .ensures) ∙ not-false (stood .result) (c .before .before .before .before .before .before .before .before .before .before .before .before .before .before .before .before .before .before .before .before .if2 .left) in
     let is = line-run m line (sym (c .before .before .before .before .before .before .before .before .before .before .before .before .before .before .before .before .before .before .before .before .before .before .before .before .short .ensures) ∙ c .before .before .before .before .before .before .before .before .before .before .before .before .before .before .before .before .before .before .before .before .before .before .before .if1 .left) holds in
     let done = c .before .before .before .before .before .before .before .before .run .ensures in
     let memory =
@@ -131,13 +128,13 @@ tra-line-spec =
     same-length-3
     same-length-4
     returns
-    book-in-requires
-    stands-for-requires
+    stand-requires
     same-length-5
     same-length-6
     same-length-7
     same-length-8
     returns-2
+    book-in-requires
     taken-requires
     run-requires
     same-length-9

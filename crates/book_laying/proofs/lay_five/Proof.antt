@@ -1,0 +1,59 @@
+use mathlib.Core.Path.{ap₂}
+use mathlib.Core.Bool.{_&&_}
+use Prim.Native.Nat.{_<_, _^_}
+use borrow.Author.Tests.{lt-ltb}
+use mathlib.Core.List.{_∷_, []}
+use lib.Seq.{sets-eq}
+use native.Mathlib.Omega.{arith}
+use lib.ListN.{length-set}
+use borrow.Author.Needs.{needs}
+use Rattle.book_laying.proofs.lay_five.Statement.{statement}
+use Rattle.book_laying.proofs.lay_five.Tie as tie
+
+slice-write-words : tie.Need-slice-write-words
+slice-write-words c = search needs
+
+slice-write-words-2 : tie.Need-slice-write-words-2
+slice-write-words-2 c = simp length-set (omega arith)
+
+slice-write-words-3 : tie.Need-slice-write-words-3
+slice-write-words-3 c = simp length-set (omega arith)
+
+cast-words : tie.Need-cast-words
+cast-words c = search needs
+
+slice-write-words-4 : tie.Need-slice-write-words-4
+slice-write-words-4 c = simp length-set (omega arith)
+
+cast-words-2 : tie.Need-cast-words-2
+cast-words-2 c = search needs
+
+slice-write-words-5 : tie.Need-slice-write-words-5
+slice-write-words-5 c = search needs
+
+same-length : tie.Need-same-length
+same-length c = search needs
+
+returns : tie.Need-returns
+returns c =
+    let a = c .before .before .args in
+    let round : a .round < 2 ^ 32 = search needs in
+    let first : a .first .0 < 2 ^ 32 = search needs in
+    let last : a .last .0 < 2 ^ 32 = search needs in (
+      sets-eq (a .stage ∷ a .kind ∷ a .round ∷ a .first .0 ∷ a .last .0 ∷ []) (a .words .now) 2 (omega arith),
+      ap₂ _&&_ (lt-ltb (a .round) (2 ^ 32) round) (ap₂ _&&_ (lt-ltb (a .first .0) (2 ^ 32) first) (lt-ltb (a .last .0) (2 ^ 32) last)),
+    )
+
+pub lay-five-spec : {M : Type 1} → statement M
+lay-five-spec =
+    tie.close
+    (tie.spec
+    slice-write-words
+    slice-write-words-2
+    slice-write-words-3
+    cast-words
+    slice-write-words-4
+    cast-words-2
+    slice-write-words-5
+    same-length
+    returns)

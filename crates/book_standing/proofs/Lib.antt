@@ -1,0 +1,2 @@
+-- Laws about words that hold a book.
+pub mod StandLaws

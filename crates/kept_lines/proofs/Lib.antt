@@ -1,0 +1,3 @@
+-- Laws about lines on lent words.
+pub mod LineLaws
+pub mod JournalLaws

@@ -1,0 +1,89 @@
+use mathlib.Core.List.{List, _++_}
+use Prim.Native.Nat.{ℕ}
+use lib.ListN.{length, take, drop}
+use mir.Facts.{toZ-ofZ}
+use mir.Syntax.{w64}
+use mathlib.Core.Path.{_≡_, sym, _∙_, ap, subst}
+use lib.Seq.{length-take-le}
+use Rattle.text.specs.Put.{putAt}
+use Rattle.book_words.specs.BookWords.{bookWords, FitsBook}
+use Rattle.replay.specs.Replay.{wordRoom, ownWords}
+use Rattle.replay.specs.declared.Journal.{Journal}
+use Rattle.kept_lines.proofs.LineLaws.{laid-part}
+use borrow.Author.Needs.{needs}
+use Rattle.kept_lines.proofs.run.Statement.{statement}
+use Rattle.kept_lines.proofs.run.Tie as tie
+
+slice-relend-prefix-answer-line : tie.Need-slice-relend-prefix-answer-line
+slice-relend-prefix-answer-line c = search needs
+
+slice-aggregate-answer-line : tie.Need-slice-aggregate-answer-line
+slice-aggregate-answer-line c = sym (length-take-le wordRoom (c .before .before .before .before .before .before .before .args .room .now) (search needs))
+
+slice-aggregate-answer-line-2 : tie.Need-slice-aggregate-answer-line-2
+slice-aggregate-answer-line-2 c = search needs
+
+answer-line-requires : tie.Need-answer-line-requires
+answer-line-requires c κs =
+    (length-take-le wordRoom (c .before .before .before .before .before .before .before .before .before .args .room .now) (search needs), (search needs, search needs))
+
+lay-book-requires : tie.Need-lay-book-requires
+lay-book-requires c κs = search needs
+
+same-length : tie.Need-same-length
+same-length c = search needs
+
+same-length-2 : tie.Need-same-length-2
+same-length-2 c = search needs
+
+same-length-3 : tie.Need-same-length-3
+same-length-3 c = search needs
+
+same-length-4 : tie.Need-same-length-4
+same-length-4 c = search needs
+
+returns : tie.Need-returns
+returns c =
+    let start = c .before .before .before .before .before .before .before .before .before .before .before .before .before .before .before .before .before .before .before .before .before .before .before .before .before in
+    let a = start .args in
+    let room = a .room .now in
+    let line = a .line .now in
+    let reply = c .before .before .before .before .before .before .before .before .before .before .before .before .before .before .before .answer-line in
+    let done = reply .ensures in
+    let laid = c .before .before .lay-book .ensures in
+    let book =
+    laid .0 ∙ ap (λ (x : Journal). putAt (a .book .now) 0 (bookWords (x .book))) (done .0)
+    in
+    let account =
+    toZ-ofZ {w = w64} {z = reply .result .journal .book .account .0} (record { sfits = c .before .before .before .before .struct-told .given .0 .1 }) ∙ ap (λ (x : Journal). x .book .account .0) (done .0)
+    in
+    let long : length (reply .last .1 .1 .1 .0) ≡ length (take wordRoom room) = search (reply .kept) in
+    let own =
+    ap (λ (l : List ℕ). l ++ drop wordRoom room) (done .1 .1 .1 .1 .0)
+    ∙ laid-part (ownWords line) room wordRoom (start .pre .1 .0) (ap length (sym (done .1 .1 .1 .1 .0)) ∙ long ∙ length-take-le wordRoom room (start .pre .1 .0))
+    in (
+      λ j. record {
+        book = book j;
+        account = account j;
+        register = done .1 .1 .1 .0 j;
+        room = own j;
+        out = done .1 .1 .0 j;
+        used = done .1 .0 j;
+      },
+      subst (λ (x : Journal). FitsBook (x .book)) (done .0) (laid .1),
+    )
+
+pub run-spec : {M : Type 1} → statement M
+run-spec =
+    tie.close
+    (tie.spec
+    slice-relend-prefix-answer-line
+    slice-aggregate-answer-line
+    slice-aggregate-answer-line-2
+    answer-line-requires
+    lay-book-requires
+    same-length
+    same-length-2
+    same-length-3
+    same-length-4
+    returns)

@@ -1,3 +1,0 @@
--- Laws of the library.
-pub mod LineLaws
-pub mod JournalLaws
