@@ -1,8 +1,8 @@
 use native.Mathlib.Omega.{arith}
-use Rattle.payout.proofs.PriceLaws.{price-account, above-within, below-within}
+use Rattle.hours.proofs.PriceLaws.{price-account, above-within, below-within}
 use borrow.Author.Needs.{needs}
-use Rattle.payout.proofs.hour.rate_at.Statement.{statement}
-use Rattle.payout.proofs.hour.rate_at.Tie as tie
+use Rattle.hours.proofs.rate_at.Statement.{statement}
+use Rattle.hours.proofs.rate_at.Tie as tie
 
 enum-told : tie.Need-enum-told
 enum-told c = search needs

@@ -11,7 +11,7 @@ ghost use lib.ListN.{length, getD, take};
 ghost use Rattle.market.specs.Books.{every};
 ghost use Rattle.market.specs.Limits.{zones, zonePriceLimit};
 ghost use Rattle.market.specs.Sound.{soundAccount};
-ghost use Rattle.payout.specs.Payout.{aboveZero, rate, hourAt, soundPrice, soundHour};
+ghost use Rattle.hours.specs.Hours.{aboveZero, rate, hourAt, soundPrice, soundHour};
 
 // Failed, or priced at the zone of the entry's path, in cents per MW.
 pub enum Hour {

@@ -10,7 +10,7 @@ use borrow.Author.Tests.{leb-true, le-leb, ltb-true}
 use Rattle.market.proofs.Tests.{left-true}
 use Rattle.market.specs.Limits.{accountLimit, zonePriceLimit}
 use Rattle.market.specs.Sound.{soundAccount}
-use Rattle.payout.specs.Payout.{aboveZero, soundPrice}
+use Rattle.hours.specs.Hours.{aboveZero, soundPrice}
 
 -- a sound price is within the account's limits too
 pub price-account : (z : ℤ) → soundPrice z ≡ true → soundAccount z ≡ true

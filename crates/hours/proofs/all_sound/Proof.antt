@@ -7,9 +7,9 @@ use lib.IntN.{pos}
 use lib.ListN.{take}
 use Rattle.market.proofs.Tests.{Passed, pass-first, fail-first, passed-first}
 use Rattle.market.specs.Limits.{zones}
-use Rattle.payout.specs.Payout.{soundPrice}
-use Rattle.payout.proofs.hour.all_sound.Statement.{statement}
-use Rattle.payout.proofs.hour.all_sound.Tie as tie
+use Rattle.hours.specs.Hours.{soundPrice}
+use Rattle.hours.proofs.all_sound.Statement.{statement}
+use Rattle.hours.proofs.all_sound.Tie as tie
 
 abbrev Inv-loop : tie.InvT-loop
 Inv-loop prices i₀ i = (i ≤ zones) × Passed soundPrice (take zones prices) i

@@ -1,9 +1,9 @@
 use mathlib.Core.Path.{sym, _∙_, ap}
 use Rattle.market.specs.declared.units.Cents.{Cents}
-use Rattle.payout.proofs.PriceLaws.{above-none, above-all}
+use Rattle.hours.proofs.PriceLaws.{above-none, above-all}
 use borrow.Author.Needs.{needs}
-use Rattle.payout.proofs.hour.above_zero.Statement.{statement}
-use Rattle.payout.proofs.hour.above_zero.Tie as tie
+use Rattle.hours.proofs.above_zero.Statement.{statement}
+use Rattle.hours.proofs.above_zero.Tie as tie
 
 below-zero-requires : tie.Need-below-zero-requires
 below-zero-requires c κs = search needs

@@ -1,6 +1,6 @@
 use borrow.Author.Needs.{needs}
-use Rattle.payout.proofs.hour.rate_of.Statement.{statement}
-use Rattle.payout.proofs.hour.rate_of.Tie as tie
+use Rattle.hours.proofs.rate_of.Statement.{statement}
+use Rattle.hours.proofs.rate_of.Tie as tie
 
 enum-told : tie.Need-enum-told
 enum-told c = search needs

@@ -2,10 +2,10 @@ use mathlib.Core.Path.{_∙_, ap}
 use mir.Facts.{toZ-ofZ}
 use lib.IntN.{ℤ}
 use Rattle.market.specs.Books.{balance}
-use Rattle.payout.specs.declared.hour.Hour.the-variants.{Priced}
+use Rattle.hours.specs.declared.Hour.the-variants.{Priced}
 use borrow.Author.Needs.{needs}
-use Rattle.payout.proofs.hour.hour_at.Statement.{statement}
-use Rattle.payout.proofs.hour.hour_at.Tie as tie
+use Rattle.hours.proofs.hour_at.Statement.{statement}
+use Rattle.hours.proofs.hour_at.Tie as tie
 
 returns : tie.Need-returns
 returns c = search needs

@@ -2,8 +2,8 @@ use mathlib.Core.Path.{sym}
 use lib.ListN.{List·getD-eq-default}
 use lib.IntN.{pos}
 use borrow.Author.Needs.{needs}
-use Rattle.payout.proofs.hour.price_at.Statement.{statement}
-use Rattle.payout.proofs.hour.price_at.Tie as tie
+use Rattle.hours.proofs.price_at.Statement.{statement}
+use Rattle.hours.proofs.price_at.Tie as tie
 
 mul-result : tie.Need-mul-result
 mul-result c = search needs
