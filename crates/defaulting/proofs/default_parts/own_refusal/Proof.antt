@@ -8,8 +8,8 @@ use Rattle.market.specs.Sound.{soundAccount}
 use Rattle.market.specs.declared.units.Balance.{Balance}
 use Rattle.market.specs.declared.units.Cents.{Cents}
 use borrow.Author.Needs.{needs}
-use Rattle.billing.proofs.default_parts.own_refusal.Statement.{statement}
-use Rattle.billing.proofs.default_parts.own_refusal.Tie as tie
+use Rattle.defaulting.proofs.default_parts.own_refusal.Statement.{statement}
+use Rattle.defaulting.proofs.default_parts.own_refusal.Tie as tie
 
 is-idle-requires : tie.Need-is-idle-requires
 is-idle-requires c κs = search needs

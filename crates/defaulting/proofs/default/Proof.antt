@@ -8,11 +8,11 @@ use Rattle.market.specs.declared.book.Bidder.{Bidder}
 use Rattle.market.specs.declared.book.Book.{Book}
 use Rattle.market.specs.declared.units.Cents.{Cents}
 use Rattle.register.specs.Words.{written}
-use Rattle.billing.proofs.Cleared.{default-cleared}
-use Rattle.billing.specs.Default.{drawOf, defaultTable, entriesLeft, bookDefaulted, default, defaultWords}
+use Rattle.defaulting.proofs.Cleared.{default-cleared}
+use Rattle.defaulting.specs.Default.{drawOf, defaultTable, entriesLeft, bookDefaulted, default, defaultWords}
 use borrow.Author.Needs.{needs}
-use Rattle.billing.proofs.default.Statement.{statement}
-use Rattle.billing.proofs.default.Tie as tie
+use Rattle.defaulting.proofs.default.Statement.{statement}
+use Rattle.defaulting.proofs.default.Tie as tie
 
 refusal-requires : tie.Need-refusal-requires
 refusal-requires c κs = search needs

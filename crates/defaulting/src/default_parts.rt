@@ -1,5 +1,5 @@
 // The parts of default.
-use crate::pay_parts;
+use billing::pay_parts;
 use market::answer::Refusal;
 use market::book::Bidder;
 use market::book::Book;
@@ -13,7 +13,7 @@ ghost use Rattle.market.specs.Answers.{firstOf};
 ghost use Rattle.market.specs.Books.{cents};
 ghost use Rattle.market.specs.Limits.{bidderLimit, stepLimit};
 ghost use Rattle.market.specs.Sound.{soundBook};
-ghost use Rattle.billing.specs.Default.{forfeitOf, drawOf, defaultRefusals, defaultTable, defaulted, bookForfeited};
+ghost use Rattle.defaulting.specs.Default.{forfeitOf, drawOf, defaultRefusals, defaultTable, defaulted, bookForfeited};
 
 // What a bidder forfeits: a tenth of its value, as far as its cash, applied cash and letter go.
 pub fn forfeit(bidder: Bidder) -> Cents

@@ -1,10 +1,10 @@
 use mathlib.Core.Path.{_≡_, ap}
 use native.Mathlib.Omega.{arith}
 use Rattle.market.specs.declared.units.Cents.{Cents}
-use Rattle.billing.specs.Default.{drawOf}
+use Rattle.defaulting.specs.Default.{drawOf}
 use borrow.Author.Needs.{needs}
-use Rattle.billing.proofs.default_parts.defaulted_bidder.Statement.{statement}
-use Rattle.billing.proofs.default_parts.defaulted_bidder.Tie as tie
+use Rattle.defaulting.proofs.default_parts.defaulted_bidder.Statement.{statement}
+use Rattle.defaulting.proofs.default_parts.defaulted_bidder.Tie as tie
 
 draw-requires : tie.Need-draw-requires
 draw-requires c κs = search needs

@@ -7,10 +7,10 @@ use Rattle.market.specs.declared.units.Balance.{Balance}
 use Rattle.market.specs.declared.units.Cents.{Cents}
 use Rattle.market.specs.declared.book.Bidder.{Bidder}
 use Rattle.market.specs.declared.book.Book.{Book}
-use Rattle.billing.specs.Default.{forfeitOf, defaulted}
+use Rattle.defaulting.specs.Default.{forfeitOf, defaulted}
 use borrow.Author.Needs.{needs}
-use Rattle.billing.proofs.default_parts.book_forfeited.Statement.{statement}
-use Rattle.billing.proofs.default_parts.book_forfeited.Tie as tie
+use Rattle.defaulting.proofs.default_parts.book_forfeited.Statement.{statement}
+use Rattle.defaulting.proofs.default_parts.book_forfeited.Tie as tie
 
 bidder-requires : tie.Need-bidder-requires
 bidder-requires c κs = search needs

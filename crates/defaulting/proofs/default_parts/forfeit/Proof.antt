@@ -3,10 +3,10 @@ use Prim.Native.Nat.{_+_, _/_}
 use native.Mathlib.Omega.{arith}
 use Rattle.market.specs.Books.{cents, valueOf, heldOf}
 use Rattle.market.specs.declared.units.Cents.{Cents}
-use Rattle.billing.specs.Default.{forfeitOf}
+use Rattle.defaulting.specs.Default.{forfeitOf}
 use borrow.Author.Needs.{needs}
-use Rattle.billing.proofs.default_parts.forfeit.Statement.{statement}
-use Rattle.billing.proofs.default_parts.forfeit.Tie as tie
+use Rattle.defaulting.proofs.default_parts.forfeit.Statement.{statement}
+use Rattle.defaulting.proofs.default_parts.forfeit.Tie as tie
 
 value-requires : tie.Need-value-requires
 value-requires c κs = search needs

@@ -2,10 +2,10 @@ use mathlib.Core.Path.{refl, sym, _∙_}
 use Rattle.market.proofs.Tables.{first-stands, second-decides}
 use Rattle.register.proofs.Cleared.{register-cleared}
 use Rattle.register.specs.Refusals.{registerRefusals}
-use Rattle.billing.specs.Default.{defaultRefusals}
+use Rattle.defaulting.specs.Default.{defaultRefusals}
 use borrow.Author.Needs.{needs}
-use Rattle.billing.proofs.default_parts.refusal.Statement.{statement}
-use Rattle.billing.proofs.default_parts.refusal.Tie as tie
+use Rattle.defaulting.proofs.default_parts.refusal.Statement.{statement}
+use Rattle.defaulting.proofs.default_parts.refusal.Tie as tie
 
 refusal-requires : tie.Need-refusal-requires
 refusal-requires c κs = search needs
