@@ -15,11 +15,10 @@ use Rattle.market.specs.declared.book.Book.{Book}
 use Rattle.market.specs.declared.units.Cents.{Cents}
 use Rattle.register.proofs.Cleared.{Lent, register-cleared}
 use Rattle.register.specs.Refusals.{registerRefusals}
-use Rattle.billing.specs.Default.{accountForfeited, defaultRefusals, defaultTable}
 use Rattle.billing.specs.Pay.{accountPaid, payRefusals, payTable}
 
--- the first two rows of both: the stage, and the bidder's number
-number-cleared : (b : Book) (i : ℕ) (rest : List Row) → firstOf ((not (isIdle (b .stage)) gives 20) ∷ (not (ltb i bidderLimit) gives 10) ∷ rest) ≡ 0 → i < bidderLimit
+-- the first two rows of pay and of default: the stage, and the bidder's number
+pub number-cleared : (b : Book) (i : ℕ) (rest : List Row) → firstOf ((not (isIdle (b .stage)) gives 20) ∷ (not (ltb i bidderLimit) gives 10) ∷ rest) ≡ 0 → i < bidderLimit
 number-cleared b i rest h =
     let one = none-holds (not (isIdle (b .stage))) 20 ((not (ltb i bidderLimit) gives 10) ∷ rest) tt h in
     let two = none-holds (not (ltb i bidderLimit)) 10 rest tt (one .1) in
@@ -34,10 +33,4 @@ pay-cleared b words i amount h =
     ∷ (not (soundAccount (accountPaid b i)) gives 31)
     ∷ []
     in
-    (register-cleared b words (parts .0), number-cleared b i rest (parts .1))
-
-pub default-cleared : (b : Book) (words : List ℕ) (i : ℕ) → firstOf (defaultTable b words i) ≡ 0 → Lent b words × (i < bidderLimit)
-default-cleared b words i h =
-    let parts = neither-holds (registerRefusals b words) (defaultRefusals b i) refl h in
-    let rest = (eqb (bidderOf b i .owed .0) 0 gives 24) ∷ (not (soundAccount (accountForfeited b i)) gives 31) ∷ [] in
     (register-cleared b words (parts .0), number-cleared b i rest (parts .1))

@@ -1,2 +1,2 @@
--- Laws about pay and default.
+-- Laws about pay.
 pub mod Cleared

@@ -1,3 +1,2 @@
--- The rules of pay and default.
+-- The rule of pay.
 pub mod Pay
-pub mod Default

@@ -1,15 +1,12 @@
-// Pay and default: what a bidder owes after an auction, paid or forfeited.
-mod default_parts;
-mod pay_parts;
+// Pay: what a bidder owes after an auction, paid.
+pub mod pay_parts;
 
 use market::answer::Answer;
 use market::answer::Outcome;
 use market::answer::Refusal;
 use market::book::Book;
 use market::units::Cents;
-use register::Removal;
 ghost use mathlib.Core.Path.{_≡_};
-ghost use Rattle.billing.specs.Default as defaults;
 ghost use Rattle.billing.specs.Pay as payments;
 
 // A bidder pays what it owes, with new money; its entries are issued.
@@ -29,26 +26,5 @@ pub fn pay(book: Book, words: &mut [u32], bidder: u32, amount: Cents) -> Outcome
     Outcome {
         answer: Answer::Done,
         book: pay_parts::book_paid(book, bidder),
-    }
-}
-
-// A bidder defaults: it forfeits, and its pending entries are removed. The answer carries the draw on its letter.
-pub fn default(book: Book, words: &mut [u32], bidder: u32) -> Outcome
-    ensures outcome { λ r. ⌜ r ≡ defaults.default book (now (words .entry)) bidder ⌝ }
-    ensures words { λ r. ⌜ now (words .exit) ≡ defaults.defaultWords book (now (words .entry)) bidder ⌝ }
-{
-    let number = default_parts::refusal(book, words, bidder);
-    if number != Refusal::NONE {
-        return Outcome {
-            answer: Answer::Refused(number),
-            book,
-        };
-    }
-    let drawn = default_parts::draw(book.bidder(bidder));
-    let count = book.entries;
-    let left = entry_changes::remove(words, count, Removal::PendingOf(bidder));
-    Outcome {
-        answer: Answer::Drawn(drawn),
-        book: default_parts::book_forfeited(book, bidder).with_entries(left),
     }
 }

@@ -125,7 +125,7 @@ fn default_three() {
     two_entries(&mut words);
     report::text(b"bidder 3 defaults");
     show(
-        billing::default(book_of_sheet(2), &mut words, 3),
+        defaulting::default(book_of_sheet(2), &mut words, 3),
         3,
         &words,
         12,
@@ -137,7 +137,7 @@ fn default_seven() {
     two_entries(&mut words);
     report::text(b"bidder 7 defaults");
     show(
-        billing::default(book_of_sheet(2), &mut words, 7),
+        defaulting::default(book_of_sheet(2), &mut words, 7),
         7,
         &words,
         12,
@@ -177,7 +177,7 @@ fn default_five(debtor: Bidder) {
     let mut book = book_of_sheet(0);
     book.bidders[5] = debtor;
     report::text(b"bidder 5 defaults");
-    show(billing::default(book, &mut words, 5), 5, &words, 0);
+    show(defaulting::default(book, &mut words, 5), 5, &words, 0);
 }
 
 fn amounts() {
@@ -200,7 +200,7 @@ fn step_case(step: u32) {
     book.bidders[5] = debtor;
     report::text(b"step");
     report::number(step as u64);
-    let up = billing::default(book, &mut words, 5);
+    let up = defaulting::default(book, &mut words, 5);
     let after = up.book;
     show_step(after);
     let down = billing::pay(book, &mut words, 5, Cents(10));
@@ -219,7 +219,7 @@ fn short_register() {
     let book = book_of_sheet(0);
     report::text(b"6,143 words");
     show_answer(billing::pay(book, &mut words, 3, Cents(650_000)));
-    show_answer(billing::default(book, &mut words, 3));
+    show_answer(defaulting::default(book, &mut words, 3));
     show_answer(retire::retire(book, &mut words, Day(0)));
     report::line();
 }
@@ -259,7 +259,7 @@ fn open_stage() {
     };
     report::text(b"open stage");
     show_answer(billing::pay(book, &mut words, 3, Cents(650_000)));
-    show_answer(billing::default(book, &mut words, 3));
+    show_answer(defaulting::default(book, &mut words, 3));
     show_answer(retire::retire(book, &mut words, Day(0)));
     report::line();
 }
@@ -293,7 +293,7 @@ fn full_register() {
     let mut words = [BLANK; WORDS];
     fill(&mut words);
     report::text(b"full register, bidder 3 defaults");
-    let outcome = billing::default(book_of_sheet(Engine::ENTRIES), &mut words, 3);
+    let outcome = defaulting::default(book_of_sheet(Engine::ENTRIES), &mut words, 3);
     show_answer(outcome);
     let book = outcome.book;
     report::text(b" entries");

@@ -13,7 +13,7 @@ use Rattle.funding.specs.Deposit.{deposit}
 use Rattle.funding.specs.Withdraw.{withdraw}
 use Rattle.rent.specs.Rent.{rent}
 use Rattle.billing.specs.Pay.{pay, payWords}
-use Rattle.billing.specs.Default.{default, defaultWords}
+use Rattle.defaulting.specs.Default.{default, defaultWords}
 use Rattle.retire.specs.Retire.{retire, retireWords}
 use Rattle.payout.specs.Payout.{payout, payoutAmounts}
 use Rattle.disbursement.specs.Disbursement.{disburse, disbursed, recover, recovered}

@@ -44,7 +44,7 @@ pub fn call(
         Call::Open { kind, period } => opening::open(book, words, kind, period, quantities),
         Call::Round => round::round(book, words, bids, answers, results, scratch),
         Call::Pay { bidder, amount } => billing::pay(book, words, bidder, amount),
-        Call::Default { bidder } => billing::default(book, words, bidder),
+        Call::Default { bidder } => defaulting::default(book, words, bidder),
         Call::Retire { day } => retire::retire(book, words, day),
         Call::Rent { amount } => rent::rent(book, amount),
         Call::Payout { day, failed } => payout::payout(book, words, day, failed, prices, amounts),

@@ -21,7 +21,7 @@ use Rattle.register.specs.Entries.{soundEntry}
 use Rattle.register.specs.Refusals.{registerRefusals, countedEntries}
 use Rattle.register.specs.Words.{written}
 use Rattle.register.specs.declared.Removal.the-variants.{PendingOf}
-use Rattle.billing.specs.Default.{forfeitOf, drawOf, accountForfeited, defaultRefusals, defaultTable, defaulted, entriesLeft, bookForfeited, bookDefaulted, default, defaultWords}
+use Rattle.defaulting.specs.Default.{forfeitOf, drawOf, accountForfeited, defaultRefusals, defaultTable, defaulted, entriesLeft, bookForfeited, bookDefaulted, default, defaultWords}
 use Rattle.keeping.proofs.Lifting.{both-kept, draw-comes-in}
 use Rattle.keeping.proofs.Made.{bidder-made, bidder-kept, account-kept}
 use Rattle.keeping.proofs.Register.{register-kept, every-without}

@@ -21,7 +21,7 @@ use Rattle.funding.specs.Deposit.{credited, depositRefusals, deposit}
 use Rattle.funding.specs.Withdraw.{debited, withdrawRefusals, withdraw}
 use Rattle.funding.specs.declared.Funds.{Funds}
 use Rattle.rent.specs.Rent as rents
-use Rattle.billing.specs.Default as defaults
+use Rattle.defaulting.specs.Default as defaults
 use Rattle.billing.specs.Pay.{payTable, bookPaid, pay, payWords}
 use Rattle.retire.specs.Retire as retires
 use Rattle.payout.specs.Payout.{amountsOf, accountPaying, payoutTable, payout, payoutAmounts}

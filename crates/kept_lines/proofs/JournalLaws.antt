@@ -27,7 +27,7 @@ use Rattle.funding.specs.Withdraw.{withdrawRefusals, debited, withdraw}
 use Rattle.rent.specs.Rent.{rentRefusals, rent}
 use Rattle.rent.specs.Rent as rents
 use Rattle.billing.specs.Pay.{payTable, bookPaid, pay}
-use Rattle.billing.specs.Default.{defaultTable, drawOf, bookDefaulted, default}
+use Rattle.defaulting.specs.Default.{defaultTable, drawOf, bookDefaulted, default}
 use Rattle.retire.specs.Retire.{retireTable, entriesLeft, retire}
 use Rattle.payout.specs.Payout.{payoutTable, accountPaying, payout}
 use Rattle.disbursement.specs.Disbursement.{refusals, outcome}

@@ -19,14 +19,15 @@ use Rattle.market.specs.declared.book.Direction.{Direction}
 use Rattle.market.specs.declared.book.Direction.the-variants.{Export, Import}
 use Rattle.market.specs.declared.book.Entry.{Entry}
 use Rattle.market.specs.declared.book.Path.{Path}
+use Rattle.hours.proofs.PriceLaws.{above-within, below-within}
+use Rattle.hours.specs.Hours.{rate, hourAt, soundPrice, soundHour}
+use Rattle.hours.specs.declared.Hour.{Hour}
+use Rattle.hours.specs.declared.Hour.the-variants.{Failed, Priced}
 use Rattle.register.proofs.EntryLaws.{entries-more}
 use Rattle.register.specs.Words.{entryAt, entriesOf}
 use Rattle.sharing.proofs.Totals.{total-set}
 use Rattle.sharing.specs.Sharing.{total}
-use Rattle.payout.proofs.PriceLaws.{above-within, below-within}
-use Rattle.payout.specs.Payout.{rate, hourAt, rateOn, pathOf, credited, soundPrice, soundPrices, soundHour}
-use Rattle.payout.specs.declared.hour.Hour.{Hour}
-use Rattle.payout.specs.declared.hour.Hour.the-variants.{Failed, Priced}
+use Rattle.payout.specs.Payout.{rateOn, pathOf, credited, soundPrices}
 
 -- a path of a sound book leads to a zone
 nothing-sound : (round : ℕ) → soundPath round noPath ≡ true

@@ -1,5 +1,4 @@
 -- Laws about payout.
 pub mod Cleared
 pub mod EarningLaws
-pub mod PriceLaws
 pub mod RateLaws

@@ -1,42 +1,22 @@
 -- Document 01, "Payout for one hour: a day, and the hour is failed or priced with 16 zone prices of −10^6 to 10^6 cents."
 use mathlib.Core.Bool.{Bool, true, false, cond, not, _&&_}
 use mathlib.Core.List.{List, [], _∷_, _++_}
-use Prim.Native.Nat.{ℕ, _+_, _*_}
+use Prim.Native.Nat.{ℕ, _*_}
 use lib.Dec.{leb, eqb}
-use lib.IntN.{ℤ, pos, negsuc, negℤ, _-ℤ_}
+use lib.IntN.{ℤ, pos, _-ℤ_}
 use lib.ListN.{length, getD, take, drop, replicate}
-use lib.Signed.{leZ}
 use Rattle.market.specs.Answers.{Row, _gives_, firstOf, answered, decided, decidedList}
-use Rattle.market.specs.Books.{every, balance, noPath, credit, withAccount}
-use Rattle.market.specs.Limits.{bidderLimit, issued, dayLimit, zones, zonePriceLimit}
+use Rattle.market.specs.Books.{every, noPath, credit, withAccount}
+use Rattle.market.specs.Limits.{bidderLimit, issued, dayLimit, zones}
 use Rattle.market.specs.Sound.{soundAccount}
 use Rattle.market.specs.declared.answer.Outcome.{Outcome}
 use Rattle.market.specs.declared.book.Book.{Book}
-use Rattle.market.specs.declared.book.Direction.{Direction}
-use Rattle.market.specs.declared.book.Direction.the-variants.{Export, Import}
 use Rattle.market.specs.declared.book.Entry.{Entry}
 use Rattle.market.specs.declared.book.Path.{Path}
 use Rattle.market.specs.declared.units.Day.{Day}
+use Rattle.hours.specs.Hours.{rate, hourAt, soundPrice}
 use Rattle.register.specs.Refusals.{registerRefusals, countedEntries}
 use Rattle.sharing.specs.Sharing.{total}
-use Rattle.payout.specs.declared.hour.Hour.{Hour}
-use Rattle.payout.specs.declared.hour.Hour.the-variants.{Failed, Priced}
-
--- "max(0, p)"
-abbrev pub aboveZero : ℤ → ℕ
-aboveZero (pos n) = n
-aboveZero (negsuc n) = 0
-
--- "MW × max(0, p) on an X path, MW × max(0, −p) on an M path": what one MW earns; "A failed hour earns 0"
-abbrev pub rate : Hour → Direction → ℕ
-rate Failed way = 0
-rate (Priced p) Export = aboveZero (p .0)
-rate (Priced p) Import = aboveZero (negℤ (p .0))
-
--- "p the price at the path's zone outside Ontario": the hour as an entry on the path sees it
-abbrev pub hourAt : Bool → List ℤ → Path → Hour
-hourAt true prices path = Failed
-hourAt false prices path = Priced (balance (getD prices (path .zone) (pos 0)))
 
 -- what one MW earns in the hour on a path
 abbrev pub rateOn : Bool → List ℤ → Path → ℕ
@@ -67,15 +47,6 @@ amountsOf b day failed prices es = credited (earned b day failed prices) (replic
 -- "the account pays and may go below 0"
 abbrev pub accountPaying : Book → Day → Bool → List ℤ → List Entry → ℤ
 accountPaying b day failed prices es = b .account .0 -ℤ pos (total (amountsOf b day failed prices es))
-
--- "16 zone prices of −10^6 to 10^6 cents"
-abbrev pub soundPrice : ℤ → Bool
-soundPrice p = leZ (negℤ (pos zonePriceLimit)) p && leZ p (pos zonePriceLimit)
-
--- the price that an entry sees is within these; a failed hour has none
-abbrev pub soundHour : Hour → Bool
-soundHour Failed = true
-soundHour (Priced p) = soundPrice (p .0)
 
 -- "A failed hour .., its lent prices untested."
 abbrev pub soundPrices : Bool → List ℤ → Bool

@@ -1,5 +1,4 @@
 // Payout: what issued rights earn in an hour.
-pub mod hour;
 mod parts;
 
 use market::answer::Answer;
@@ -42,7 +41,7 @@ fn hour_refusal(day: Day, failed: bool, prices: &[i64]) -> u32
     if failed {
         return Refusal::NONE;
     }
-    if !hour::all_sound(prices) {
+    if !hours::all_sound(prices) {
         return Refusal::ZONE_PRICE;
     }
     Refusal::NONE

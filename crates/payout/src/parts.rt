@@ -1,5 +1,4 @@
 // The parts of payout: what an entry earns, and the sums by bidder.
-use crate::hour;
 use market::book::Book;
 use market::book::Entry;
 use market::book::Path;
@@ -38,7 +37,7 @@ fn rates_of(
     for i in 0..count {
         let path = paths[i];
         let direction = path.direction;
-        let rate = hour::rate_of(hour::hour_at(failed, prices, path), direction);
+        let rate = hours::rate_of(hours::hour_at(failed, prices, path), direction);
         rates[i] = rate;
     }
     rates

@@ -27,7 +27,7 @@ use Rattle.funding.specs.Withdraw.{withdrawRefusals, debited, withdraw}
 use Rattle.funding.specs.declared.Funds.{Funds}
 use Rattle.rent.specs.Rent.{rentRefusals, accountAfter, rent}
 use Rattle.billing.specs.Pay.{payRefusals, bookPaid, pay, payWords}
-use Rattle.billing.specs.Default.{defaultRefusals, drawOf, bookForfeited, default, defaultWords}
+use Rattle.defaulting.specs.Default.{defaultRefusals, drawOf, bookForfeited, default, defaultWords}
 use Rattle.retire.specs.Retire.{retireRefusals, retire, retireWords}
 use Rattle.payout.specs.Payout as payouts
 use Rattle.disbursement.specs.Disbursement as pools

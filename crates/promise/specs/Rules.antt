@@ -20,7 +20,7 @@ use Rattle.funding.specs.Deposit.{depositRefusals, credited}
 use Rattle.funding.specs.Withdraw.{withdrawRefusals, debited}
 use Rattle.rent.specs.Rent.{rentRefusals, accountAfter}
 use Rattle.billing.specs.Pay.{payRefusals, bookPaid}
-use Rattle.billing.specs.Default.{defaultRefusals, drawOf, bookForfeited}
+use Rattle.defaulting.specs.Default.{defaultRefusals, drawOf, bookForfeited}
 use Rattle.retire.specs.Retire.{retireRefusals}
 use Rattle.payout.specs.Payout as payouts
 use Rattle.disbursement.specs.Disbursement as pools

@@ -7,9 +7,10 @@ use lib.ListN.{getD, set}
 use Rattle.market.proofs.Filled.{filled, fill-next}
 use Rattle.market.specs.Books.{noPath}
 use Rattle.market.specs.Limits.{pathLimit}
+use Rattle.hours.specs.Hours.{rate}
+use Rattle.hours.specs.declared.Hour.{Hour}
 use Rattle.payout.proofs.EarningLaws.{hour-sound, filled-at}
-use Rattle.payout.specs.Payout.{rate, rateOn}
-use Rattle.payout.specs.declared.hour.Hour.{Hour}
+use Rattle.payout.specs.Payout.{rateOn}
 use Rattle.payout.proofs.parts.rates_of.Statement.{statement}
 use Rattle.payout.proofs.parts.rates_of.Tie as tie
 

@@ -1,0 +1,2 @@
+-- Laws about default.
+pub mod Cleared

@@ -1,0 +1,35 @@
+use mathlib.Core.Path.{_≡_, ap}
+use Prim.Native.Nat.{_-_}
+use native.Mathlib.Omega.{arith}
+use Rattle.market.specs.Books.{cents, heldOf}
+use Rattle.market.specs.declared.units.Cents.{Cents}
+use Rattle.defaulting.specs.Default.{forfeitOf}
+use borrow.Author.Needs.{needs}
+use Rattle.defaulting.proofs.default_parts.cash_left.Statement.{statement}
+use Rattle.defaulting.proofs.default_parts.cash_left.Tie as tie
+
+forfeit-requires : tie.Need-forfeit-requires
+forfeit-requires c κs = search needs
+
+add-held : tie.Need-add-held
+add-held c = search needs
+
+returns : tie.Need-returns
+returns c =
+    let x = c .before .before .before .before .before .before .before .args .bidder in
+    let lost : c .before .before .before .before .forfeit .result .0 ≡ forfeitOf x = ap (λ (v : Cents). v .0) (c .before .before .before .before .forfeit .ensures) in
+    let same : 0 ≡ heldOf x - forfeitOf x = omega arith in
+    ap cents same
+
+sub-t7 : tie.Need-sub-t7
+sub-t7 c = search needs
+
+returns-2 : tie.Need-returns-2
+returns-2 c =
+    let x = c .before .before .before .before .before .before .before .before .args .bidder in
+    let lost : c .before .before .before .before .before .forfeit .result .0 ≡ forfeitOf x = ap (λ (v : Cents). v .0) (c .before .before .before .before .before .forfeit .ensures) in
+    let same : heldOf x - c .before .before .before .before .before .forfeit .result .0 ≡ heldOf x - forfeitOf x = omega arith in
+    ap cents same
+
+pub cash-left-spec : {M : Type 1} → statement M
+cash-left-spec = tie.close (tie.spec forfeit-requires add-held returns sub-t7 returns-2)

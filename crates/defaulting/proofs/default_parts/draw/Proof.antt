@@ -1,0 +1,35 @@
+use mathlib.Core.Path.{_≡_, ap}
+use Prim.Native.Nat.{_-_}
+use native.Mathlib.Omega.{arith}
+use Rattle.market.specs.Books.{cents, heldOf}
+use Rattle.market.specs.declared.units.Cents.{Cents}
+use Rattle.defaulting.specs.Default.{forfeitOf, drawOf}
+use borrow.Author.Needs.{needs}
+use Rattle.defaulting.proofs.default_parts.draw.Statement.{statement}
+use Rattle.defaulting.proofs.default_parts.draw.Tie as tie
+
+forfeit-requires : tie.Need-forfeit-requires
+forfeit-requires c κs = search needs
+
+add-held : tie.Need-add-held
+add-held c = search needs
+
+returns : tie.Need-returns
+returns c =
+    let x = c .before .before .before .before .before .before .before .args .bidder in
+    let lost : c .before .before .before .before .forfeit .result .0 ≡ forfeitOf x = ap (λ (v : Cents). v .0) (c .before .before .before .before .forfeit .ensures) in
+    let same : 0 ≡ drawOf x = omega arith in
+    ap cents same
+
+sub-t7 : tie.Need-sub-t7
+sub-t7 c = search needs
+
+returns-2 : tie.Need-returns-2
+returns-2 c =
+    let x = c .before .before .before .before .before .before .before .before .args .bidder in
+    let lost : c .before .before .before .before .before .forfeit .result .0 ≡ forfeitOf x = ap (λ (v : Cents). v .0) (c .before .before .before .before .before .forfeit .ensures) in
+    let same : c .before .before .before .before .before .forfeit .result .0 - heldOf x ≡ drawOf x = omega arith in
+    ap cents same
+
+pub draw-spec : {M : Type 1} → statement M
+draw-spec = tie.close (tie.spec forfeit-requires add-held returns sub-t7 returns-2)

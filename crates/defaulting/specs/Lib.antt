@@ -1,0 +1,2 @@
+-- The rule of default.
+pub mod Default

@@ -1,0 +1,2 @@
+-- Laws about an hour.
+pub mod PriceLaws

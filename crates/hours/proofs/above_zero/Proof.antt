@@ -1,0 +1,23 @@
+use mathlib.Core.Path.{sym, _∙_, ap}
+use Rattle.market.specs.declared.units.Cents.{Cents}
+use Rattle.hours.proofs.PriceLaws.{above-none, above-all}
+use borrow.Author.Needs.{needs}
+use Rattle.hours.proofs.above_zero.Statement.{statement}
+use Rattle.hours.proofs.above_zero.Tie as tie
+
+below-zero-requires : tie.Need-below-zero-requires
+below-zero-requires c κs = search needs
+
+returns : tie.Need-returns
+returns c = sym (above-none (c .before .before .args .price .0) (sym (c .before .below-zero .ensures) ∙ c .if1 .taken))
+
+magnitude-requires : tie.Need-magnitude-requires
+magnitude-requires c κs = search needs
+
+returns-2 : tie.Need-returns-2
+returns-2 c =
+    let z = c .before .before .before .args .price .0 in
+    ap (λ (v : Cents). v .0) (c .magnitude .ensures) ∙ sym (above-all z (sym (c .before .before .below-zero .ensures) ∙ c .before .if1 .left))
+
+pub above-zero-spec : {M : Type 1} → statement M
+above-zero-spec = tie.close (tie.spec below-zero-requires returns magnitude-requires returns-2)
