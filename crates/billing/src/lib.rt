@@ -1,13 +1,26 @@
 // Pay: what a bidder owes after an auction, paid.
-pub mod pay_parts;
+mod pay_parts;
 
 use market::answer::Answer;
 use market::answer::Outcome;
 use market::answer::Refusal;
+use market::book::Bidder;
 use market::book::Book;
 use market::units::Cents;
 ghost use mathlib.Core.Path.{_≡_};
+ghost use Rattle.market.proofs.SoundLaws.{BidderBounds};
+ghost use Rattle.market.specs.Books.{cents, valueOf};
 ghost use Rattle.billing.specs.Pay as payments;
+
+// A bidder's value.
+pub fn value(bidder: Bidder) -> Cents
+    requires { ⌜ BidderBounds bidder ⌝ }
+    ensures { λ r. ⌜ r ≡ cents (valueOf bidder) ⌝ }
+{
+    let applied = bidder.applied;
+    let owed = bidder.owed;
+    Cents(applied.0 + owed.0)
+}
 
 // A bidder pays what it owes, with new money; its entries are issued.
 pub fn pay(book: Book, words: &mut [u32], bidder: u32, amount: Cents) -> Outcome

@@ -7,22 +7,10 @@ use market::units::Cents;
 ghost use mathlib.Core.Path.{_≡_};
 ghost use mathlib.Core.Bool.{true};
 ghost use Prim.Native.Nat.{_-_, _<_};
-ghost use Rattle.market.proofs.SoundLaws.{BidderBounds};
 ghost use Rattle.market.specs.Answers.{firstOf};
-ghost use Rattle.market.specs.Books.{cents, valueOf};
 ghost use Rattle.market.specs.Limits.{bidderLimit};
 ghost use Rattle.market.specs.Sound.{soundBook};
 ghost use Rattle.billing.specs.Pay.{payRefusals, payTable, paid, bookPaid};
-
-// A bidder's value.
-pub fn value(bidder: Bidder) -> Cents
-    requires { ⌜ BidderBounds bidder ⌝ }
-    ensures { λ r. ⌜ r ≡ cents (valueOf bidder) ⌝ }
-{
-    let applied = bidder.applied;
-    let owed = bidder.owed;
-    Cents(applied.0 + owed.0)
-}
 
 // The refusals of pay after 1 and 2.
 fn own_refusal(book: Book, bidder: u32, amount: Cents) -> u32
@@ -45,7 +33,7 @@ fn own_refusal(book: Book, bidder: u32, amount: Cents) -> u32
         return Refusal::NOTHING_DUE;
     }
     let account = book.account;
-    if !balance::sound(balance::plus(account, value(payer))) {
+    if !balance::sound(balance::plus(account, crate::value(payer))) {
         return Refusal::ACCOUNT;
     }
     Refusal::NONE
@@ -97,7 +85,7 @@ pub fn book_paid(book: Book, bidder: u32) -> Book
 {
     let payer = book.bidder(bidder);
     let account = book.account;
-    let after = balance::plus(account, value(payer));
+    let after = balance::plus(account, crate::value(payer));
     book.with_bidder(bidder, paid_bidder(payer))
         .with_account(after)
 }

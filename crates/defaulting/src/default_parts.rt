@@ -1,5 +1,4 @@
 // The parts of default.
-use billing::pay_parts;
 use market::answer::Refusal;
 use market::book::Bidder;
 use market::book::Book;
@@ -23,7 +22,7 @@ pub fn forfeit(bidder: Bidder) -> Cents
     let cash = bidder.cash;
     let applied = bidder.applied;
     let letter = bidder.letter;
-    let value = pay_parts::value(bidder);
+    let value = billing::value(bidder);
     let tenth = value.0 / 10;
     let most = cash.0 + applied.0 + letter.0;
     if most <= tenth {
