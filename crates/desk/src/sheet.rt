@@ -7,7 +7,6 @@ use market::engine::Engine;
 use sheets::form;
 use sheets::form::Form;
 use sheets::form::Found;
-use sheets::section;
 ghost use mathlib.Core.Path.{_≡_};
 ghost use mathlib.Core.Bool.{true};
 ghost use mathlib.Core.List.{[], _∷_};
@@ -40,8 +39,8 @@ fn run_short(bytes: &[u8], found: Found, book: Book, listed: &[u32], out: &mut [
     ensures bytes { λ _. ⌜ now (out .exit) ≡ putAt (now (out .entry)) 0 (outputFrom (answered book) (now (listed .entry)) (wordsOf (partAt Bids (atRounds (now (bytes .entry)))) ∷ [])) ⌝ }
 {
     let mut words = [0u32; Engine::SHEET_BYTES];
-    let section = section::first_bids(bytes, found);
-    let count = section::words_of(section, &mut words);
+    let section = bid_sections::first_bids(bytes, found);
+    let count = bid_sections::words_of(section, &mut words);
     round_output::short_output(book, &words[..count], listed, out)
 }
 
@@ -57,11 +56,11 @@ fn run_long(bytes: &[u8], found: Found, book: Book, listed: &[u32], out: &mut [u
     ensures bytes { λ _. ⌜ now (out .exit) ≡ putAt (now (out .entry)) 0 (outputFrom (answered book) (now (listed .entry)) (wordsOf (partAt Bids (atRounds (now (bytes .entry)))) ∷ wordsOf (behindPart Bids (atRounds (now (bytes .entry)))) ∷ [])) ⌝ }
 {
     let mut words = [0u32; Engine::SHEET_BYTES];
-    let first = section::first_bids(bytes, found);
-    let count = section::words_of(first, &mut words);
+    let first = bid_sections::first_bids(bytes, found);
+    let count = bid_sections::words_of(first, &mut words);
     let mut later = [0u32; Engine::SHEET_BYTES];
-    let second = section::second_bids(bytes, found);
-    let later_count = section::words_of(second, &mut later);
+    let second = bid_sections::second_bids(bytes, found);
+    let later_count = bid_sections::words_of(second, &mut later);
     round_output::long_output(book, &words[..count], &later[..later_count], listed, out)
 }
 

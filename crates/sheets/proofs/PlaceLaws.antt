@@ -1,43 +1,16 @@
--- The places at which sections begin are those of the rules.
+-- The place at which the paths begin is that of the rules.
 use mathlib.Core.Path.{_≡_, sym, _∙_, ap}
 use mathlib.Core.List.{List}
-use Prim.Native.Nat.{ℕ, _-_, _≤_}
-use native.Mathlib.Omega.{arith}
-use lib.ListN.{length, take, drop, length-drop}
-use lib.Seq.{drop-drop, take-all}
+use Prim.Native.Nat.{ℕ}
+use lib.ListN.{drop}
+use lib.Seq.{drop-drop}
 use Rattle.lines.specs.Lines.{titleUsed}
-use Rattle.lines.specs.declared.part.Part.the-variants.{Bidders, Paths, Bids}
+use Rattle.lines.specs.declared.part.Part.the-variants.{Bidders}
 use Rattle.sheets.specs.Form.{sectionAt, PlacesAre}
-use Rattle.sheets.specs.Reading.{partAt, behindPart, atBidders, atPaths, atRounds}
+use Rattle.sheets.specs.Reading.{atBidders, atPaths}
 use Rattle.sheets.specs.declared.form.Found.{Found}
 
 module _ (bytes : List ℕ) (found : Found) (p : PlacesAre bytes (titleUsed bytes) found) where
   pub paths-place : drop (found .paths) bytes ≡ atPaths bytes
   paths-place =
       ap (λ (n : ℕ). drop n bytes) (p .paths) ∙ sym (drop-drop (sectionAt Bidders (atBidders bytes) .used) (titleUsed bytes) bytes)
-
-  rounds-place : drop (found .first) bytes ≡ atRounds bytes
-  rounds-place =
-      ap (λ (n : ℕ). drop n bytes) (p .first)
-      ∙ sym (drop-drop (sectionAt Paths (drop (found .paths) bytes) .used) (found .paths) bytes)
-      ∙ ap (behindPart Paths) paths-place
-
-  section-long : found .second - found .first ≡ sectionAt Bids (drop (found .first) bytes) .used
-  section-long = omega (arith, p .second)
-
-  pub first-ordered : found .first ≤ found .second
-  first-ordered = omega (arith, p .second)
-
-  pub first-section : take (found .second - found .first) (drop (found .first) bytes) ≡ partAt Bids (atRounds bytes)
-  first-section =
-      ap (λ (n : ℕ). take n (drop (found .first) bytes)) section-long ∙ ap (partAt Bids) rounds-place
-
-  pub behind-section : drop (found .second) bytes ≡ behindPart Bids (atRounds bytes)
-  behind-section =
-      ap (λ (n : ℕ). drop n bytes) (p .second)
-      ∙ sym (drop-drop (sectionAt Bids (drop (found .first) bytes) .used) (found .first) bytes)
-      ∙ ap (behindPart Bids) rounds-place
-
--- all that stands from a place on
-pub rest-whole : (bytes : List ℕ) (n : ℕ) → take (length bytes - n) (drop n bytes) ≡ drop n bytes
-rest-whole bytes n = take-all (length bytes - n) (drop n bytes) (omega (arith, length-drop n bytes))

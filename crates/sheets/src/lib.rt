@@ -1,4 +1,3 @@
-// A sheet: its form, what its lines say, its bid sections and their words.
+// A sheet: its form, and what its lines say.
 pub mod form;
 pub mod rows;
-pub mod section;

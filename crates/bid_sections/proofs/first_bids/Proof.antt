@@ -1,8 +1,8 @@
 use mathlib.Core.Path.{refl}
 use borrow.Author.Needs.{needs}
-use Rattle.sheets.proofs.PlaceLaws.{first-section}
-use Rattle.sheets.proofs.section.first_bids.Statement.{statement}
-use Rattle.sheets.proofs.section.first_bids.Tie as tie
+use Rattle.bid_sections.proofs.SectionPlaces.{first-section}
+use Rattle.bid_sections.proofs.first_bids.Statement.{statement}
+use Rattle.bid_sections.proofs.first_bids.Tie as tie
 
 sub-result : tie.Need-sub-result
 sub-result c = search needs

@@ -1,15 +1,15 @@
 // The bid sections of a sheet, handed back as the parts of it that they occupy, and their words.
-use crate::form::Found;
 use lines::part::Part;
+use sheets::form::Found;
 ghost use mathlib.Core.Path.{_≡_};
 ghost use Prim.Native.Nat.{_-_, _≤_};
 ghost use lib.ListN.{length, take, drop};
 ghost use Rattle.market.specs.Limits.{sheetBytes};
 ghost use Rattle.lines.specs.Lines.{titleUsed};
 ghost use Rattle.lines.specs.declared.part.Part.the-variants.{Bids};
 ghost use Rattle.sheets.specs.Form.{PlacesAre};
 ghost use Rattle.sheets.specs.Reading.{partAt, behindPart, atRounds};
 ghost use Rattle.sheets.specs.Words.{wordOf, wordsOf};
 ghost use Rattle.text.specs.Put.{putAt};
 
 // The first bid section of a sheet that has the form, its count line with it.

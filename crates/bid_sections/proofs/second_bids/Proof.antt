@@ -1,8 +1,8 @@
 use mathlib.Core.Path.{_∙_}
 use borrow.Author.Needs.{needs}
-use Rattle.sheets.proofs.PlaceLaws.{rest-whole, behind-section}
-use Rattle.sheets.proofs.section.second_bids.Statement.{statement}
-use Rattle.sheets.proofs.section.second_bids.Tie as tie
+use Rattle.bid_sections.proofs.SectionPlaces.{rest-whole, behind-section}
+use Rattle.bid_sections.proofs.second_bids.Statement.{statement}
+use Rattle.bid_sections.proofs.second_bids.Tie as tie
 
 sub-result : tie.Need-sub-result
 sub-result c = search needs

@@ -1,7 +1,7 @@
 use borrow.Author.Needs.{needs}
-use Rattle.sheets.proofs.WordLaws.{short-word, long-word}
-use Rattle.sheets.proofs.section.word_of.Statement.{statement}
-use Rattle.sheets.proofs.section.word_of.Tie as tie
+use Rattle.bid_sections.proofs.WordsPut.{short-word, long-word}
+use Rattle.bid_sections.proofs.word_of.Statement.{statement}
+use Rattle.bid_sections.proofs.word_of.Tie as tie
 
 cast-result : tie.Need-cast-result
 cast-result c = search needs

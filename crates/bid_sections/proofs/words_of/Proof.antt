@@ -2,9 +2,9 @@ use Prim.Native.Nat.{_+_, _-_}
 use native.Mathlib.Omega.{arith}
 use lib.ListN.{length, drop, length-drop}
 use borrow.Author.Needs.{needs}
-use Rattle.sheets.proofs.WordLaws.{WordsTo, none-put, all-counted, all-put, one-put, near-end}
-use Rattle.sheets.proofs.section.words_of.Statement.{statement}
-use Rattle.sheets.proofs.section.words_of.Tie as tie
+use Rattle.bid_sections.proofs.WordsPut.{WordsTo, none-put, all-counted, all-put, one-put, near-end}
+use Rattle.bid_sections.proofs.words_of.Statement.{statement}
+use Rattle.bid_sections.proofs.words_of.Tie as tie
 
 abbrev Inv-loop : tie.InvT-loop
 Inv-loop section out₀ at₀ n₀ out at n = WordsTo section out₀ out n at

@@ -1,0 +1,40 @@
+-- The places at which bid sections begin are those of the rules.
+use mathlib.Core.Path.{_≡_, sym, _∙_, ap}
+use mathlib.Core.List.{List}
+use Prim.Native.Nat.{ℕ, _-_, _≤_}
+use native.Mathlib.Omega.{arith}
+use lib.ListN.{length, take, drop, length-drop}
+use lib.Seq.{drop-drop, take-all}
+use Rattle.lines.specs.Lines.{titleUsed}
+use Rattle.lines.specs.declared.part.Part.the-variants.{Paths, Bids}
+use Rattle.sheets.specs.Form.{sectionAt, PlacesAre}
+use Rattle.sheets.specs.Reading.{partAt, behindPart, atRounds}
+use Rattle.sheets.specs.declared.form.Found.{Found}
+use Rattle.sheets.proofs.PlaceLaws.{paths-place}
+
+module _ (bytes : List ℕ) (found : Found) (p : PlacesAre bytes (titleUsed bytes) found) where
+  rounds-place : drop (found .first) bytes ≡ atRounds bytes
+  rounds-place =
+      ap (λ (n : ℕ). drop n bytes) (p .first)
+      ∙ sym (drop-drop (sectionAt Paths (drop (found .paths) bytes) .used) (found .paths) bytes)
+      ∙ ap (behindPart Paths) (paths-place bytes found p)
+
+  section-long : found .second - found .first ≡ sectionAt Bids (drop (found .first) bytes) .used
+  section-long = omega (arith, p .second)
+
+  pub first-ordered : found .first ≤ found .second
+  first-ordered = omega (arith, p .second)
+
+  pub first-section : take (found .second - found .first) (drop (found .first) bytes) ≡ partAt Bids (atRounds bytes)
+  first-section =
+      ap (λ (n : ℕ). take n (drop (found .first) bytes)) section-long ∙ ap (partAt Bids) rounds-place
+
+  pub behind-section : drop (found .second) bytes ≡ behindPart Bids (atRounds bytes)
+  behind-section =
+      ap (λ (n : ℕ). drop n bytes) (p .second)
+      ∙ sym (drop-drop (sectionAt Bids (drop (found .first) bytes) .used) (found .first) bytes)
+      ∙ ap (behindPart Bids) rounds-place
+
+-- all that stands from a place on
+pub rest-whole : (bytes : List ℕ) (n : ℕ) → take (length bytes - n) (drop n bytes) ≡ drop n bytes
+rest-whole bytes n = take-all (length bytes - n) (drop n bytes) (omega (arith, length-drop n bytes))
