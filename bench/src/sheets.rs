@@ -29,13 +29,20 @@ struct Sheet {
 
 /// The whole output for a sheet.
 pub fn output(sheet: &[u8]) -> Vec<u8> {
+    let mut out = Vec::new();
+    put(&mut out, sheet);
+    out
+}
+
+/// The output of a sheet, behind what is in the buffer.
+pub fn put(out: &mut Vec<u8>, sheet: &[u8]) {
     let sheet = match read(sheet) {
         Ok(sheet) => sheet,
-        Err(line) => return format!("refused 40 line {line}\n").into_bytes(),
+        Err(line) => return out.extend_from_slice(format!("refused 40 line {line}\n").as_bytes()),
     };
     match run(&sheet) {
-        Ok((rounds, book)) => award_sheet(&sheet, &rounds, &book),
-        Err(number) => format!("refused {number}\n").into_bytes(),
+        Ok((rounds, book)) => put_award_sheet(out, &sheet, &rounds, &book),
+        Err(number) => out.extend_from_slice(format!("refused {number}\n").as_bytes()),
     }
 }
 
@@ -162,18 +169,17 @@ fn run(sheet: &Sheet) -> Result<(Vec<Round>, Book), u32> {
     Ok((rounds, book))
 }
 
-fn award_sheet(sheet: &Sheet, rounds: &[Round], book: &Book) -> Vec<u8> {
-    let mut out = format!("TRA-AWARD release {RELEASE} rules {RULES}\n").into_bytes();
-    text::put_count(&mut out, "rounds", rounds.len());
-    rounds.iter().for_each(|round| put_round(&mut out, round));
-    text::put_count(&mut out, "bidders", sheet.bidders.len());
+fn put_award_sheet(out: &mut Vec<u8>, sheet: &Sheet, rounds: &[Round], book: &Book) {
+    out.extend_from_slice(format!("TRA-AWARD release {RELEASE} rules {RULES}\n").as_bytes());
+    text::put_count(out, "rounds", rounds.len());
+    rounds.iter().for_each(|round| put_round(out, round));
+    text::put_count(out, "bidders", sheet.bidders.len());
     for listed in &sheet.bidders {
         let b = &book.bidders[listed.number as usize];
-        text::put(&mut out, listed.number.into());
-        text::put_each(&mut out, [b.cash, b.applied, b.letter, b.hold, b.owed]);
+        text::put(out, listed.number.into());
+        text::put_each(out, [b.cash, b.applied, b.letter, b.hold, b.owed]);
         out.push(b'\n');
     }
-    out
 }
 
 fn put_round(out: &mut Vec<u8>, round: &Round) {

@@ -29,10 +29,18 @@ fn main() {
         row(name, repetitions, &work);
     }
     for (name, sheet) in work::sheets() {
+        let (mut out, mut theirs) = (vec![0; tra::OUT_BYTES], Vec::with_capacity(tra::OUT_BYTES));
         let (ours, peers) = turns(
             repetitions,
-            || timed(|| drop(black_box(proved::sheet(&sheet)))),
-            || timed(|| drop(black_box(sheets::output(&sheet)))),
+            || {
+                timed(|| {
+                    black_box(tra::sheet(&sheet, &mut out).expect("the buffer is as long as stated"));
+                })
+            },
+            || {
+                theirs.clear();
+                timed(|| sheets::put(black_box(&mut theirs), &sheet))
+            },
         );
         print(&format!("{name}, {} bytes", sheet.len()), ours, peers);
     }
