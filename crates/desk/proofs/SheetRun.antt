@@ -20,9 +20,7 @@ use Rattle.text.specs.Put.{putAt}
 use Rattle.funding.specs.declared.Funds.{Funds}
 use Rattle.funding.specs.declared.Funds.the-variants.{Cash, Letter}
 use Rattle.opening.specs.Open.{«open»}
-use Rattle.keeping.proofs.KeepFunding.{deposit-keeps}
 use Rattle.keeping.proofs.KeepOpen.{open-keeps}
-use Rattle.keeping.proofs.Start.{fresh-state}
 use Rattle.keeping.specs.State.{State}
 use Rattle.bids.specs.Encoding.{encoded}
 use Rattle.lines.specs.declared.part.Part.the-variants.{Bidders, Paths, Bids}
@@ -36,6 +34,7 @@ use Rattle.sheets.specs.declared.form.Form.the-variants.{Right}
 use Rattle.sheets.specs.declared.rows.BidderLine.{BidderLine}
 use Rattle.sheets.specs.declared.rows.PathLine.{PathLine}
 use Rattle.market.proofs.Tables.{none-refused}
+use Rattle.preparing.proofs.KeepDeposits.{next-keeps, deposits-keep, fresh-keeps}
 use Rattle.preparing.specs.Preparing.{unlessRefused, andThen, depositIf, lineDeposits, deposits, routesOf, quantitiesOf, emptyRegister, opened}
 use Rattle.preparing.specs.PreparedSlots.{isListed}
 use Rattle.award_sheet.specs.AwardSheet.{isBidder, refusedText}
@@ -45,25 +44,6 @@ use Rattle.round_output.proofs.RoundDone.{written-refused}
 use Rattle.round_output.proofs.TwoRounds.{stopped, goes-on}
 
 -- ---- The state that open leaves
-
--- whether or not the calls before are answered, the book is sound
-next-keeps : (n : ℕ) (done next : Outcome) (words : List ℕ) → State (done .book) words → State (next .book) words → State (unlessRefused n done next .book) words
-next-keeps zero done next words a b = b
-next-keeps (suc n) done next words a b = a
-
-deposit-if-keeps : (amount : ℕ) (b : Book) (words : List ℕ) (bidder : ℕ) (to : Funds) → State b words → State (depositIf amount b bidder to .book) words
-deposit-if-keeps zero b words bidder to state = state
-deposit-if-keeps (suc n) b words bidder to state = deposit-keeps b words bidder to (cents (suc n)) state
-
-deposits-keep : (b : Book) (words : List ℕ) (xs : List BidderLine) → State b words → State (deposits b xs .book) words
-deposits-keep b words [] state = state
-deposits-keep b words (x ∷ xs) state =
-    let cash = depositIf (x .cash) b (x .bidder) Cash in
-    let letter = depositIf (x .letter) (cash .book) (x .bidder) Letter in
-    let first = deposit-if-keeps (x .cash) b words (x .bidder) Cash state in
-    let line = next-keeps (answerNumber (cash .answer)) cash letter words first (deposit-if-keeps (x .letter) (cash .book) words (x .bidder) Letter first) in
-    next-keeps (answerNumber (lineDeposits b x .answer)) (lineDeposits b x) (deposits (lineDeposits b x .book) xs) words line
-    (deposits-keep (lineDeposits b x .book) words xs line)
 
 module _ (kind : Kind) (period : Period) (bidders : List BidderLine) (paths : List PathLine) where
   abbrev made : Outcome
@@ -75,23 +55,9 @@ module _ (kind : Kind) (period : Period) (bidders : List BidderLine) (paths : Li
   abbrev rest : Outcome
   rest = andThen funded (λ after. «open» after emptyRegister kind period (quantitiesOf paths))
 
-  abbrev refusal : ℕ
-  refusal = firstOf (freshRefusals (routesOf paths) (length paths))
-
-  made-state : refusal ≡ 0 → State (made .book) emptyRegister
-  unfolding fresh
-  made-state none =
-      subst (λ (b : Book). State b emptyRegister)
-      (sym (ap (λ (o : Outcome). o .book) (is-taken noBook refusal (answered (freshBook (routesOf paths) (length paths))) none)))
-      (fresh-state (routesOf paths) (length paths) emptyRegister none (omega (arith, length-replicate {A = ℕ} registerWords 0)))
-
-  made-answered : answerNumber (made .answer) ≡ 0 → refusal ≡ 0
-  unfolding fresh
-  made-answered none = none-refused noBook refusal (answered (freshBook (routesOf paths) (length paths))) none
-
   opened-with : (n : ℕ) → n ≡ answerNumber (made .answer) → answerNumber (unlessRefused n made rest .answer) ≡ 0 → State (unlessRefused n made rest .book) emptyRegister
   opened-with zero is none =
-      let state = deposits-keep (made .book) emptyRegister bidders (made-state (made-answered (sym is))) in
+      let state = deposits-keep (made .book) emptyRegister bidders (fresh-keeps (routesOf paths) (length paths) (sym is)) in
       next-keeps (answerNumber (funded .answer)) funded («open» (funded .book) emptyRegister kind period (quantitiesOf paths)) emptyRegister state
       (open-keeps (funded .book) emptyRegister kind period (quantitiesOf paths) state)
   opened-with (suc n) is none = absurd (let bad : ⊥ = omega (arith, is, none) in bad)

@@ -7,6 +7,8 @@ use market::answer::Refusal;
 use market::book::Book;
 use market::units::Cents;
 ghost use mathlib.Core.Path.{_≡_};
+ghost use mathlib.Core.Bool.{true};
+ghost use Rattle.market.specs.Sound.{soundBook};
 ghost use Rattle.funding.specs.Deposit as deposits;
 ghost use Rattle.funding.specs.Withdraw as withdrawals;
 
@@ -16,8 +18,9 @@ pub enum Funds {
     Letter,
 }
 
-// A deposit of cash, or of a letter of credit.
-pub fn deposit(book: Book, bidder: u32, to: Funds, amount: Cents) -> Outcome
+// A deposit on a book that is known to be sound, which is not tested again.
+pub fn deposit_sound(book: Book, bidder: u32, to: Funds, amount: Cents) -> Outcome
+    requires { ⌜ soundBook book ≡ true ⌝ }
     ensures { λ r. ⌜ r ≡ deposits.deposit book bidder to amount ⌝ }
 {
     let number = parts::deposit_refusal(book, bidder, to, amount);
@@ -34,8 +37,22 @@ pub fn deposit(book: Book, bidder: u32, to: Funds, amount: Cents) -> Outcome
     }
 }
 
-// A withdrawal of cash, or of the letter less what is held of it.
-pub fn withdraw(book: Book, bidder: u32, from: Funds, amount: Cents) -> Outcome
+// A deposit of cash, or of a letter of credit.
+pub fn deposit(book: Book, bidder: u32, to: Funds, amount: Cents) -> Outcome
+    ensures { λ r. ⌜ r ≡ deposits.deposit book bidder to amount ⌝ }
+{
+    if !soundness::sound_book(book) {
+        return Outcome {
+            answer: Answer::Refused(Refusal::UNSOUND),
+            book,
+        };
+    }
+    deposit_sound(book, bidder, to, amount)
+}
+
+// A withdrawal on a book that is known to be sound.
+fn withdraw_sound(book: Book, bidder: u32, from: Funds, amount: Cents) -> Outcome
+    requires { ⌜ soundBook book ≡ true ⌝ }
     ensures { λ r. ⌜ r ≡ withdrawals.withdraw book bidder from amount ⌝ }
 {
     let number = parts::withdraw_refusal(book, bidder, from, amount);
@@ -50,4 +67,17 @@ pub fn withdraw(book: Book, bidder: u32, from: Funds, amount: Cents) -> Outcome
         answer: Answer::Done,
         book: book.with_bidder(bidder, next),
     }
+}
+
+// A withdrawal of cash, or of the letter less what is held of it.
+pub fn withdraw(book: Book, bidder: u32, from: Funds, amount: Cents) -> Outcome
+    ensures { λ r. ⌜ r ≡ withdrawals.withdraw book bidder from amount ⌝ }
+{
+    if !soundness::sound_book(book) {
+        return Outcome {
+            answer: Answer::Refused(Refusal::UNSOUND),
+            book,
+        };
+    }
+    withdraw_sound(book, bidder, from, amount)
 }

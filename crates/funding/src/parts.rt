@@ -10,6 +10,7 @@ ghost use mathlib.Core.Bool.{true};
 ghost use Prim.Native.Nat.{_≤_};
 ghost use Rattle.market.specs.Answers.{firstOf};
 ghost use Rattle.market.specs.Books.{withCash, withLetter};
+ghost use Rattle.market.specs.Sound.{soundBook};
 ghost use Rattle.market.proofs.SoundLaws.{BidderBounds};
 ghost use Rattle.funding.specs.Deposit.{hasRoom, depositRefusals, credited};
 ghost use Rattle.funding.specs.Funding.{fundingRefusals};
@@ -31,13 +32,11 @@ fn with_letter(bidder: Bidder, letter: Cents) -> Bidder
     next
 }
 
-// The refusals that deposit and withdraw have in common; 0 where there is none.
-pub fn common_refusal(book: Book, bidder: u32, amount: Cents) -> u32
+// The refusals that deposit and withdraw have in common, of a sound book; 0 where there is none.
+fn common_refusal(book: Book, bidder: u32, amount: Cents) -> u32
+    requires { ⌜ soundBook book ≡ true ⌝ }
     ensures { λ r. ⌜ r ≡ firstOf (fundingRefusals book bidder amount) ⌝ }
 {
-    if !soundness::sound_book(book) {
-        return Refusal::UNSOUND;
-    }
     if bidder as usize >= Engine::BIDDERS {
         return Refusal::BIDDER;
     }
@@ -60,8 +59,9 @@ fn has_room(bidder: Bidder, to: Funds, amount: Cents) -> bool
     }
 }
 
-// The refusal of a deposit, 0 where there is none.
+// The refusal of a deposit on a sound book, 0 where there is none.
 pub fn deposit_refusal(book: Book, bidder: u32, to: Funds, amount: Cents) -> u32
+    requires { ⌜ soundBook book ≡ true ⌝ }
     ensures { λ r. ⌜ r ≡ firstOf (depositRefusals book bidder to amount) ⌝ }
 {
     let number = common_refusal(book, bidder, amount);
@@ -102,8 +102,9 @@ fn withdrawable_of(bidder: Bidder, from: Funds) -> Cents
     }
 }
 
-// The refusal of a withdrawal, 0 where there is none.
+// The refusal of a withdrawal from a sound book, 0 where there is none.
 pub fn withdraw_refusal(book: Book, bidder: u32, from: Funds, amount: Cents) -> u32
+    requires { ⌜ soundBook book ≡ true ⌝ }
     ensures { λ r. ⌜ r ≡ firstOf (withdrawRefusals book bidder from amount) ⌝ }
 {
     let number = common_refusal(book, bidder, amount);

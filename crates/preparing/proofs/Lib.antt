@@ -1,4 +1,5 @@
 -- Laws about the calls before the first round.
 pub mod DepositLaws
+pub mod KeepDeposits
 pub mod PreparingLaws
 pub mod SlotLaws

@@ -13,11 +13,13 @@ ghost use Prim.Native.Nat.{_≤_, _<_};
 ghost use lib.ListN.{take};
 ghost use Rattle.market.specs.Books.{every};
 ghost use Rattle.market.specs.Limits.{bidderLimit};
+ghost use Rattle.keeping.specs.State.{State};
 ghost use Rattle.preparing.specs.Preparing as rules;
 ghost use Rattle.preparing.specs.PreparedSlots.{isListed};
 
-// A deposit, where the amount is not 0.
+// A deposit, where the amount is not 0. The book is sound from the first deposit to the last, and so it is not tested at each.
 fn deposit_if(book: Book, bidder: u32, to: Funds, amount: u64) -> Outcome
+    requires { ⌜ State book rules.emptyRegister ⌝ }
     ensures { λ r. ⌜ r ≡ rules.depositIf amount book bidder to ⌝ }
 {
     if amount == 0 {
@@ -26,12 +28,13 @@ fn deposit_if(book: Book, bidder: u32, to: Funds, amount: u64) -> Outcome
             book,
         };
     }
-    funding::deposit(book, bidder, to, Cents(amount))
+    funding::deposit_sound(book, bidder, to, Cents(amount))
 }
 
 // The deposits of a line: cash, and then letter.
 fn line_deposits(book: Book, line: BidderLine) -> Outcome
     requires { ⌜ line .bidder < bidderLimit ⌝ }
+    requires { ⌜ State book rules.emptyRegister ⌝ }
     ensures { λ r. ⌜ r ≡ rules.lineDeposits book line ⌝ }
 {
     let bidder = line.bidder as u32;
@@ -47,6 +50,7 @@ fn line_deposits(book: Book, line: BidderLine) -> Outcome
 pub fn deposits(book: Book, rows: BidderRows) -> Outcome
     requires { ⌜ rows .count ≤ bidderLimit ⌝ }
     requires { ⌜ every isListed (rows .lines) ≡ true ⌝ }
+    requires { ⌜ State book rules.emptyRegister ⌝ }
     ensures { λ r. ⌜ r ≡ rules.deposits book (take (rows .count) (rows .lines)) ⌝ }
 {
     let lines = rows.lines;

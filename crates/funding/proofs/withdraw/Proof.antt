@@ -1,54 +1,29 @@
-use mathlib.Core.Path.{sym, _∙_, ap}
-use Rattle.funding.proofs.Cleared.{withdraw-cleared}
-use Rattle.market.proofs.Tables.{refuses, takes}
+use mathlib.Core.Path.{sym, _∙_}
+use native.Mathlib.Omega.{arith}
+use borrow.Author.Tests.{not-true, not-false}
+use Rattle.market.proofs.Tables.{refuses}
 use Rattle.market.specs.Answers.{answered}
 use Rattle.market.specs.Books.{bidderOf, withBidder}
-use Rattle.market.specs.declared.book.Bidder.{Bidder}
 use Rattle.funding.specs.Withdraw.{debited, withdrawRefusals, withdraw}
 use borrow.Author.Needs.{needs}
 use Rattle.funding.proofs.withdraw.Statement.{statement}
 use Rattle.funding.proofs.withdraw.Tie as tie
 
-withdraw-refusal-requires : tie.Need-withdraw-refusal-requires
-withdraw-refusal-requires c κs = search needs
+sound-book-requires : tie.Need-sound-book-requires
+sound-book-requires c κs = search needs
 
 returns : tie.Need-returns
 unfolding withdraw
 returns c =
     let a = c .before .before .args in
-    refuses (a .book) (withdrawRefusals (a .book) (a .bidder) (a .from) (a .amount)) (answered (withBidder (a .book) (a .bidder) (debited (bidderOf (a .book) (a .bidder)) (a .from) (a .amount)))) (c .before .withdraw-refusal .result) (c .before .withdraw-refusal .ensures) (c .if1 .taken)
+    refuses (a .book) (withdrawRefusals (a .book) (a .bidder) (a .from) (a .amount)) (answered (withBidder (a .book) (a .bidder) (debited (bidderOf (a .book) (a .bidder)) (a .from) (a .amount)))) 2
+    (rw (sym (c .before .sound-book .ensures) ∙ not-true _ (c .if1 .taken))) (λ e. omega (arith, e))
 
-bidder-requires : tie.Need-bidder-requires
-bidder-requires c κs =
-    let a = c .before .before .args in
-    withdraw-cleared (a .book) (a .bidder) (a .from) (a .amount) (sym (c .before .withdraw-refusal .ensures) ∙ c .if1 .left) .0 .number
-
-debited-bidder-requires : tie.Need-debited-bidder-requires
-debited-bidder-requires c κs =
-    let a = c .before .before .before .args in
-    let clear = withdraw-cleared (a .book) (a .bidder) (a .from) (a .amount) (sym (c .before .before .withdraw-refusal .ensures) ∙ c .before .if1 .left) in
-    rw (c .bidder .ensures) (clear .0 .bounds, clear .1)
-
-with-bidder-requires : tie.Need-with-bidder-requires
-with-bidder-requires c κs =
-    let a = c .before .before .before .before .args in
-    withdraw-cleared (a .book) (a .bidder) (a .from) (a .amount) (sym (c .before .before .before .withdraw-refusal .ensures) ∙ c .before .before .if1 .left) .0 .number
+withdraw-sound-requires : tie.Need-withdraw-sound-requires
+withdraw-sound-requires c κs = sym (c .before .sound-book .ensures) ∙ not-false _ (c .if1 .left)
 
 returns-2 : tie.Need-returns-2
-unfolding withdraw
-returns-2 c =
-    let a = c .before .before .before .before .before .args in
-    let next = c .before .debited-bidder .ensures ∙ ap (λ (x : Bidder). debited x (a .from) (a .amount)) (c .before .before .bidder .ensures) in
-    ap answered (c .with-bidder .ensures ∙ ap (withBidder (a .book) (a .bidder)) next)
-    ∙ takes (a .book) (withdrawRefusals (a .book) (a .bidder) (a .from) (a .amount)) (answered (withBidder (a .book) (a .bidder) (debited (bidderOf (a .book) (a .bidder)) (a .from) (a .amount)))) (c .before .before .before .before .withdraw-refusal .result) (c .before .before .before .before .withdraw-refusal .ensures) (c .before .before .before .if1 .left)
+returns-2 c = c .withdraw-sound .ensures
 
 pub withdraw-spec : {M : Type 1} → statement M
-withdraw-spec =
-    tie.close
-    (tie.spec
-    withdraw-refusal-requires
-    returns
-    bidder-requires
-    debited-bidder-requires
-    with-bidder-requires
-    returns-2)
+withdraw-spec = tie.close (tie.spec sound-book-requires returns withdraw-sound-requires returns-2)

@@ -1,4 +1,9 @@
-use mathlib.Core.Path.{_∙_}
+use mathlib.Core.Path.{sym, _∙_, ap, subst}
+use Rattle.market.specs.Answers.{answerNumber}
+use Rattle.market.specs.declared.answer.Outcome.{Outcome}
+use Rattle.keeping.specs.State.{State}
+use Rattle.preparing.specs.Preparing.{emptyRegister}
+use Rattle.preparing.proofs.KeepDeposits.{fresh-keeps}
 use lib.ListN.{take}
 use Rattle.preparing.proofs.PreparingLaws.{book-refused, few-paths, deposits-refused, deposits-made}
 use borrow.Author.Needs.{needs}
@@ -24,7 +29,12 @@ returns c =
     (c .before .number .result) (c .before .number .ensures) (c .if1 .taken)
 
 deposits-requires : tie.Need-deposits-requires
-deposits-requires c κs = search needs
+deposits-requires c κs =
+    let start = c .before .before .before .before .before in
+    let made = c .before .before .fresh in
+    let routes = c .before .before .before .routes in
+    let taken = ap (λ (o : Outcome). answerNumber (o .answer)) (sym (made .ensures)) ∙ sym (c .before .number .ensures) ∙ c .if1 .left in
+    (start .pre .0, (start .pre .1, subst (λ (o : Outcome). State (o .book) emptyRegister) (sym (made .ensures)) (fresh-keeps (routes .result) (start .args .paths .count) taken)))
 
 number-requires-2 : tie.Need-number-requires-2
 number-requires-2 c κs = search needs

@@ -9,13 +9,13 @@ returns c =
     let a = c .before .args in
     none-deposited (a .amount) (a .book) (a .bidder) (a .to) (c .if1 .taken)
 
-deposit-requires : tie.Need-deposit-requires
-deposit-requires c κs = search needs
+deposit-sound-requires : tie.Need-deposit-sound-requires
+deposit-sound-requires c κs = c .before .pre .sound
 
 returns-2 : tie.Need-returns-2
 returns-2 c =
     let a = c .before .before .args in
-    c .deposit .ensures ∙ some-deposited (a .amount) (a .book) (a .bidder) (a .to) (c .before .if1 .left)
+    c .deposit-sound .ensures ∙ some-deposited (a .amount) (a .book) (a .bidder) (a .to) (c .before .if1 .left)
 
 pub deposit-if-spec : {M : Type 1} → statement M
-deposit-if-spec = tie.close (tie.spec returns deposit-requires returns-2)
+deposit-if-spec = tie.close (tie.spec returns deposit-sound-requires returns-2)

@@ -1,4 +1,9 @@
-use mathlib.Core.Path.{_∙_}
+use mathlib.Core.Path.{sym, _∙_, subst}
+use Rattle.market.specs.declared.answer.Outcome.{Outcome}
+use Rattle.funding.specs.declared.Funds.the-variants.{Cash}
+use Rattle.keeping.specs.State.{State}
+use Rattle.preparing.specs.Preparing.{emptyRegister}
+use Rattle.preparing.proofs.KeepDeposits.{deposit-if-keeps}
 use Rattle.preparing.proofs.DepositLaws.{cash-refused, cash-made}
 use borrow.Author.Needs.{needs}
 use Rattle.preparing.proofs.deposits.line_deposits.Statement.{statement}
@@ -8,7 +13,7 @@ cast-bidder : tie.Need-cast-bidder
 cast-bidder c = search needs
 
 deposit-if-requires : tie.Need-deposit-if-requires
-deposit-if-requires c κs = search needs
+deposit-if-requires c κs = c .before .pre .1
 
 number-requires : tie.Need-number-requires
 number-requires c κs = search needs
@@ -20,7 +25,11 @@ returns c =
     (c .before .number .result) (c .before .number .ensures) (c .if1 .taken)
 
 deposit-if-requires-2 : tie.Need-deposit-if-requires-2
-deposit-if-requires-2 c κs = search needs
+deposit-if-requires-2 c κs =
+    let start = c .before .before .before .before in
+    let a = start .args in
+    let cash = c .before .before .deposit-if in
+    subst (λ (o : Outcome). State (o .book) emptyRegister) (sym (cash .ensures)) (deposit-if-keeps (a .line .cash) (a .book) emptyRegister (a .line .bidder) Cash (start .pre .1))
 
 returns-2 : tie.Need-returns-2
 returns-2 c =

@@ -1,0 +1,54 @@
+use mathlib.Core.Path.{sym, _∙_, ap}
+use Rattle.funding.proofs.Cleared.{deposit-cleared}
+use Rattle.market.proofs.Tables.{refuses, takes}
+use Rattle.market.specs.Answers.{answered}
+use Rattle.market.specs.Books.{bidderOf, withBidder}
+use Rattle.market.specs.declared.book.Bidder.{Bidder}
+use Rattle.funding.specs.Deposit.{credited, depositRefusals, deposit}
+use borrow.Author.Needs.{needs}
+use Rattle.funding.proofs.deposit_sound.Statement.{statement}
+use Rattle.funding.proofs.deposit_sound.Tie as tie
+
+deposit-refusal-requires : tie.Need-deposit-refusal-requires
+deposit-refusal-requires c κs = search needs
+
+returns : tie.Need-returns
+unfolding deposit
+returns c =
+    let a = c .before .before .args in
+    refuses (a .book) (depositRefusals (a .book) (a .bidder) (a .to) (a .amount)) (answered (withBidder (a .book) (a .bidder) (credited (bidderOf (a .book) (a .bidder)) (a .to) (a .amount)))) (c .before .deposit-refusal .result) (c .before .deposit-refusal .ensures) (c .if1 .taken)
+
+bidder-requires : tie.Need-bidder-requires
+bidder-requires c κs =
+    let a = c .before .before .args in
+    deposit-cleared (a .book) (a .bidder) (a .to) (a .amount) (sym (c .before .deposit-refusal .ensures) ∙ c .if1 .left) .0 .number
+
+credited-bidder-requires : tie.Need-credited-bidder-requires
+credited-bidder-requires c κs =
+    let a = c .before .before .before .args in
+    let clear = deposit-cleared (a .book) (a .bidder) (a .to) (a .amount) (sym (c .before .before .deposit-refusal .ensures) ∙ c .before .if1 .left) in
+    rw (c .bidder .ensures) (clear .1)
+
+with-bidder-requires : tie.Need-with-bidder-requires
+with-bidder-requires c κs =
+    let a = c .before .before .before .before .args in
+    deposit-cleared (a .book) (a .bidder) (a .to) (a .amount) (sym (c .before .before .before .deposit-refusal .ensures) ∙ c .before .before .if1 .left) .0 .number
+
+returns-2 : tie.Need-returns-2
+unfolding deposit
+returns-2 c =
+    let a = c .before .before .before .before .before .args in
+    let next = c .before .credited-bidder .ensures ∙ ap (λ (x : Bidder). credited x (a .to) (a .amount)) (c .before .before .bidder .ensures) in
+    ap answered (c .with-bidder .ensures ∙ ap (withBidder (a .book) (a .bidder)) next)
+    ∙ takes (a .book) (depositRefusals (a .book) (a .bidder) (a .to) (a .amount)) (answered (withBidder (a .book) (a .bidder) (credited (bidderOf (a .book) (a .bidder)) (a .to) (a .amount)))) (c .before .before .before .before .deposit-refusal .result) (c .before .before .before .before .deposit-refusal .ensures) (c .before .before .before .if1 .left)
+
+pub deposit-sound-spec : {M : Type 1} → statement M
+deposit-sound-spec =
+    tie.close
+    (tie.spec
+    deposit-refusal-requires
+    returns
+    bidder-requires
+    credited-bidder-requires
+    with-bidder-requires
+    returns-2)
