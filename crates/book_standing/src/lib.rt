@@ -44,6 +44,7 @@ fn path_stands(words: &[u64], at: usize) -> bool
     direction & (zone & (offer & sold))
 }
 
+// The same of a bidder, of whose words the step alone has 32 bits.
 fn bidder_stands(words: &[u64], at: usize) -> bool
     requires { ⌜ at + rules.bidderSize ≤ length (now words) ⌝ }
     ensures { λ r. ⌜ r ≡ rules.sameWords (take rules.bidderSize (drop at (now (words .entry)))) (rules.bidderWords (rules.bidderAt (now (words .entry)) at)) ⌝ }
