@@ -2,14 +2,14 @@
 use mathlib.Core.Path.{_≡_, refl, sym, _∙_, ap}
 use mathlib.Core.Bool.{Bool, true, false, cond}
 use mathlib.Core.List.{List, [], _∷_, _++_}
-use Prim.Native.Nat.{ℕ, zero, suc, _+_, _≤_, _<_, min}
+use Prim.Native.Nat.{ℕ, zero, suc, _<_, min}
 use native.Mathlib.Omega.{arith}
-use lib.Dec.{eqb, ltb}
+use lib.Dec.{eqb}
 use borrow.Author.Tests.{eqb-true, eqb-false, ne-eqb}
 use lib.ListN.{length, getD, length-append, List·getD-append}
 use lib.Seq.{ext-getD, getD-at}
 use Rattle.awards.specs.Awards.{lower}
-use Rattle.awarding.specs.Tables.{below, winnersIn}
+use Rattle.awarding.specs.Tables.{below}
 
 pub below-length : (n : ℕ) (f : ℕ → ℕ) → length (below n f) ≡ n
 below-length zero f = refl
@@ -74,15 +74,3 @@ lower-assoc p q r = go (eqb p 0) (eqb q 0) (eqb r 0) refl refl refl
         ∙ (let same : min (min p q) r ≡ min p (min q r) = omega arith in same)
         ∙ sym (lower-both p (min q r) (some p e) (omega (arith, some q f, some r g)))
         ∙ ap (lower p) (sym two)
-
--- one bid more is counted, and no more bids win than there are
-pub winners-next : (won : List ℕ) (k : ℕ) → winnersIn won (k + 1) ≡ winnersIn won k + cond (ltb 0 (getD won k 0)) 1 0
-winners-next won k = ap (winnersIn won) (let next : k + 1 ≡ suc k = omega arith in next)
-
-pub winners-within : (won : List ℕ) (n : ℕ) → winnersIn won n ≤ n
-winners-within won zero = omega arith
-winners-within won (suc n) = omega (arith, winners-within won n, one (ltb 0 (getD won n 0)))
-  where
-    one : (t : Bool) → cond t 1 0 ≤ 1
-    one true = omega arith
-    one false = omega arith

@@ -13,7 +13,7 @@ ghost use Rattle.awards.specs.Awards.{lower, walk, awardsOf};
 ghost use Rattle.bids.proofs.Walk.{soundList};
 ghost use Rattle.bids.specs.Bids.{bidsOf};
 ghost use Rattle.ordering.specs.Packed.{lotIn, fits};
-ghost use Rattle.awarding.specs.Tables.{wonTable, soldTable, priceTable, winnersIn};
+ghost use Rattle.awarding.specs.Tables.{wonTable, soldTable, priceTable};
 
 // The MW that each bid won, the MW sold of each path, and its clearing price, 0 where there is none.
 pub struct Awarded {
@@ -113,47 +113,4 @@ pub fn award_bids(
 {
     let lots = ordering::order(words, marks, count, scratch);
     award(words, scratch, lots, offered)
-}
-
-// How many of the first bids won any MW.
-pub fn winners(won: [u32; Engine::BIDS], count: usize) -> usize
-    requires { ⌜ count ≤ bidLimit ⌝ }
-    ensures { λ r. ⌜ r ≡ winnersIn won count ⌝ }
-{
-    let mut sum: usize = 0;
-    for k in 0..count {
-        sum += counted(won[k]);
-    }
-    sum
-}
-
-fn counted(won: u32) -> usize
-    ensures { λ r. ⌜ r ≡ cond (ltb 0 won) 1 0 ⌝ }
-{
-    if 0 < won {
-        return 1;
-    }
-    0
-}
-
-// How many bids would win, worked out without the lent scratch: a round asks this where its winners may not fit the register, before
-// it touches anything that is lent.
-pub fn winners_of(
-    words: &[u32],
-    marks: &[u32],
-    count: usize,
-    offered: [u32; Engine::PATHS],
-) -> usize
-    requires { ⌜ length (now words) ≤ bidListWords ⌝ }
-    requires { ⌜ soundList pathLimit (now words) ≡ true ⌝ }
-    requires { ⌜ count ≡ length (bidsOf (now words)) ⌝ }
-    requires { ⌜ count ≤ bidLimit ⌝ }
-    requires { ⌜ bidLimit ≤ length (now marks) ⌝ }
-    requires { ⌜ every soundQuantity offered ≡ true ⌝ }
-    ensures { λ r. ⌜ r ≡ winnersIn (wonTable (awardsOf offered (bidsOf (now (words .entry))) (now (marks .entry)))) (length (bidsOf (now (words .entry)))) ⌝ }
-{
-    let mut own = [0u32; Engine::SCRATCH_WORDS];
-    let awarded = award_bids(words, marks, count, offered, &mut own);
-    let won = awarded.won;
-    winners(won, count)
 }

@@ -65,6 +65,6 @@ pub fn has_room(book: Book, bids: &[u32], worked: Worked) -> bool
     }
     let marks = worked.marks;
     let offered = worked.offered;
-    let winners = awarding::winners_of(bids, &marks, worked.bids, offered);
+    let winners = winners::winners_of(bids, &marks, worked.bids, offered);
     winners <= room
 }

@@ -15,7 +15,7 @@ use Rattle.market.specs.Books.{every}
 use Rattle.market.specs.Sound.{periodOf, soundQuantity}
 use Rattle.bids.specs.Bids.{bidsOf}
 use Rattle.awards.specs.Awards.{Award, awardsOf}
-use Rattle.awarding.proofs.TableLaws.{winners-within}
+use Rattle.winners.proofs.WinnerLaws.{winners-within}
 use Rattle.awarding.specs.Tables.{wonTable, winnersIn}
 use Rattle.round.specs.Padded.{padded}
 use Rattle.round.specs.Round.{offeredNow, marksNow, awardsNow, wonNow, entriesNow}

@@ -1,7 +1,7 @@
 use native.Mathlib.Omega.{arith}
 use borrow.Author.Tests.{lt-ltb, le-ltb}
-use Rattle.awarding.proofs.counted.Statement.{statement}
-use Rattle.awarding.proofs.counted.Tie as tie
+use Rattle.winners.proofs.counted.Statement.{statement}
+use Rattle.winners.proofs.counted.Tie as tie
 
 returns : tie.Need-returns
 returns c = let a = c .before .args in rw (lt-ltb 0 (a .won) (c .if1 .taken))

@@ -1,8 +1,8 @@
 use mathlib.Core.Path.{_∙_, ap₂}
 use Rattle.awarding.specs.Tables.{winnersIn}
 use borrow.Author.Needs.{needs}
-use Rattle.awarding.proofs.winners_of.Statement.{statement}
-use Rattle.awarding.proofs.winners_of.Tie as tie
+use Rattle.winners.proofs.winners_of.Statement.{statement}
+use Rattle.winners.proofs.winners_of.Tie as tie
 
 slice-aggregate-award-bids : tie.Need-slice-aggregate-award-bids
 slice-aggregate-award-bids c = search needs

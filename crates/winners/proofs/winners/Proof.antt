@@ -2,10 +2,10 @@ use borrow.Author.Needs.{needs}
 use native.Mathlib.Omega.{arith}
 use mathlib.Core.Path.{_≡_, refl, _∙_, ap}
 use Prim.Native.Nat.{_≤_, _-_, _+_}
 use Rattle.awarding.specs.Tables.{winnersIn}
-use Rattle.awarding.proofs.TableLaws.{winners-next, winners-within}
-use Rattle.awarding.proofs.winners.Statement.{statement}
-use Rattle.awarding.proofs.winners.Tie as tie
+use Rattle.winners.proofs.WinnerLaws.{winners-next, winners-within}
+use Rattle.winners.proofs.winners.Statement.{statement}
+use Rattle.winners.proofs.winners.Tie as tie
 
 abbrev Inv-loop : tie.InvT-loop
 Inv-loop count won sum₀ k₀ sum k = (k ≤ count) × (sum ≡ winnersIn won k)

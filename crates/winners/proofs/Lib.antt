@@ -1,0 +1,2 @@
+-- Laws about the count of winners.
+pub mod WinnerLaws
