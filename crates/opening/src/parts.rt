@@ -73,7 +73,7 @@ fn opened_path(
     let path = book.paths[i];
     let direction = path.direction;
     let number = i as u32;
-    let out = register::outstanding_on(words, book.entries, book.path_count, number, period);
+    let out = outstanding::outstanding_on(words, book.entries, book.path_count, number, period);
     let of = quantities_at(quantities, i);
     let offer = offers::offer(kind, of, out);
     Path {

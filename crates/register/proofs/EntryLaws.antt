@@ -15,9 +15,8 @@ use Rattle.market.specs.Books.{every}
 use Rattle.market.specs.Limits.{bidderLimit, quantityLimit, pending, issued}
 use Rattle.market.specs.Sound.{soundPeriod}
 use Rattle.market.specs.declared.book.Entry.{Entry}
-use Rattle.market.specs.declared.book.Period.{Period}
 use Rattle.register.proofs.WordLaws.{put-appends, entry-past, entries-length, entries-at, length-snoc}
-use Rattle.register.specs.Entries.{soundEntry, goes, without, sharesDay, countedOf, outstanding}
+use Rattle.register.specs.Entries.{soundEntry, goes, without}
 use Rattle.register.specs.Words.{entryAt, entriesOf, putAt, written}
 use Rattle.register.specs.declared.Removal.{Removal}
 
@@ -101,16 +100,6 @@ module _ (what : Removal) (words₀ words : List ℕ) (i kept : ℕ) (now : word
       go true = now
       go false = ap (λ (w : List ℕ). putAt w kept (entryAt words i)) now ∙ put-next words₀ es kept (entryAt words i) (sym long)
 
--- ---- megawatts summed
-
-pub outstanding-snoc : (path : ℕ) (period : Period) (es : List Entry) (e : Entry) → outstanding path period (es ++ (e ∷ [])) ≡ outstanding path period es + countedOf path period e
-outstanding-snoc path period [] e = omega arith
-outstanding-snoc path period (x ∷ es) e = omega (arith, outstanding-snoc path period es e)
-
-pub outstanding-more : (words : List ℕ) (i path : ℕ) (period : Period) → outstanding path period (entriesOf words (i + 1)) ≡ outstanding path period (entriesOf words i) + countedOf path period (entryAt words i)
-outstanding-more words i path period =
-    ap (outstanding path period) (entries-more words i) ∙ outstanding-snoc path period (entriesOf words i) (entryAt words i)
-
 -- the bounds of a sound entry
 pub record EntryBounds (paths : ℕ) (e : Entry) : Type 0 where
   pub bidder : e .bidder < bidderLimit
@@ -139,13 +128,6 @@ entry-bounds paths e h =
       period = right-true (bidder && path && some && quantity) period h₅;
     }
 
-counted-within : (path : ℕ) (period : Period) (e : Entry) → countedOf path period e ≤ e .quantity .0
-counted-within path period e = go (eqb (e .path) path && sharesDay (e .period) period)
-  where
-    go : (t : Bool) → cond t (e .quantity .0) 0 ≤ e .quantity .0
-    go true = omega arith
-    go false = omega arith
-
 -- each counted entry of a sound register is within its bounds
 pub each-bounds : (paths : ℕ) (words : List ℕ) (n i : ℕ) → every (soundEntry paths) (entriesOf words n) ≡ true → i < n → EntryBounds paths (entryAt words i)
 each-bounds paths words n i h below =
@@ -154,8 +136,3 @@ each-bounds paths words n i h below =
     let is : getD es i e ≡ e = entries-at words n i e below in
     entry-bounds paths e
     (ap (soundEntry paths) (sym is) ∙ every-within (soundEntry paths) es i e (omega (arith, entries-length words n)) h)
-
--- so what it counts for is within the limit of a quantity
-pub counted-bound : (paths : ℕ) (words : List ℕ) (n i path : ℕ) (period : Period) → every (soundEntry paths) (entriesOf words n) ≡ true → i < n → countedOf path period (entryAt words i) ≤ quantityLimit
-counted-bound paths words n i path period h below =
-    omega (arith, counted-within path period (entryAt words i), each-bounds paths words n i h below .quantity)

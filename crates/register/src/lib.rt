@@ -7,15 +7,14 @@ use market::engine::Engine;
 use market::units::Day;
 use market::units::Megawatts;
 ghost use mathlib.Core.Path.{_≡_};
-ghost use mathlib.Core.Bool.{true};
 ghost use mathlib.Core.List.{_++_, _∷_, []};
 ghost use Prim.Native.Nat.{_+_, _*_, _≤_, _<_};
 ghost use lib.Dec.{ltb};
 ghost use lib.ListN.{length};
 ghost use Rattle.market.specs.Answers.{firstOf};
-ghost use Rattle.market.specs.Books.{every, megawatts};
-ghost use Rattle.market.specs.Limits.{entryLimit, entryWords};
-ghost use Rattle.register.specs.Entries.{soundEntry, countedOf, outstanding};
+ghost use Rattle.market.specs.Books.{every};
+ghost use Rattle.market.specs.Limits.{entryWords};
+ghost use Rattle.register.specs.Entries.{soundEntry};
 ghost use Rattle.register.specs.Refusals.{registerRefusals};
 ghost use Rattle.register.specs.Words.{entryAt, entriesOf, putAt, written};
 
@@ -101,42 +100,6 @@ pub fn sound_entries(words: &[u32], count: usize, paths: usize) -> bool
         }
     }
     true
-}
-
-fn counted(path: u32, period: Period, entry: Entry) -> u32
-    ensures { λ r. ⌜ r ≡ countedOf path period entry ⌝ }
-{
-    let quantity = entry.quantity;
-    let days = entry.period;
-    let first = days.first;
-    let last = days.last;
-    let new_first = period.first;
-    let new_last = period.last;
-    if (entry.path == path) & ((first.0 <= new_last.0) & (new_first.0 <= last.0)) {
-        return quantity.0;
-    }
-    0
-}
-
-// The megawatts of a path whose period shares a day with another.
-pub fn outstanding_on(
-    words: &[u32],
-    count: usize,
-    paths: usize,
-    path: u32,
-    period: Period,
-) -> Megawatts
-    requires { ⌜ count * entryWords ≤ length (now words) ⌝ }
-    requires { ⌜ count ≤ entryLimit ⌝ }
-    requires { ⌜ every (soundEntry paths) (entriesOf (now words) count) ≡ true ⌝ }
-    ensures { λ r. ⌜ r ≡ megawatts (outstanding path period (entriesOf (now (words .entry)) count)) ⌝ }
-{
-    let mut sum: u32 = 0;
-    for i in 0..count {
-        let more = counted(path, period, read(words, i));
-        sum += more;
-    }
-    Megawatts(sum)
 }
 
 // The refusals 1 and 2 of a call that is lent the register; 0 where there is none.

@@ -1,7 +1,7 @@
 use mathlib.Core.Path.{sym, ap}
 use mathlib.Core.Bool.{Bool, cond}
-use Rattle.register.proofs.counted.Statement.{statement}
-use Rattle.register.proofs.counted.Tie as tie
+use Rattle.outstanding.proofs.counted.Statement.{statement}
+use Rattle.outstanding.proofs.counted.Tie as tie
 
 returns : tie.Need-returns
 returns c = sym (ap (λ (t : Bool). cond t (c .before .before .before .before .before .before .before .before .before .before .before .before .args .entry .quantity .0) 0) (c .if1 .taken))

@@ -1,14 +1,14 @@
 use Rattle.register.specs.Words.{entriesOf}
 use Rattle.register.specs.Entries.{countedOf, outstanding}
 use Rattle.market.specs.Books.{megawatts}
 use Prim.Native.Nat.{ℕ, _≤_, _-_, _*_}
 use borrow.Author.Needs.{needs}
 use mathlib.Core.Path.{_≡_, refl, _∙_, ap}
 use native.Mathlib.Omega.{arith}
 use Rattle.market.specs.Limits.{quantityLimit}
-use Rattle.register.proofs.EntryLaws.{outstanding-more, counted-bound}
-use Rattle.register.proofs.outstanding_on.Statement.{statement}
-use Rattle.register.proofs.outstanding_on.Tie as tie
+use Rattle.outstanding.proofs.OutstandingLaws.{outstanding-more, counted-bound}
+use Rattle.outstanding.proofs.outstanding_on.Statement.{statement}
+use Rattle.outstanding.proofs.outstanding_on.Tie as tie
 
 abbrev Inv-loop : tie.InvT-loop
 Inv-loop words count paths path period sum₀ i₀ sum i =

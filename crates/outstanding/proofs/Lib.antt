@@ -1,0 +1,2 @@
+-- Laws about the megawatts outstanding.
+pub mod OutstandingLaws
