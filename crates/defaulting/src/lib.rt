@@ -1,4 +1,4 @@
-// Default: what a bidder owes after an auction, forfeited.
+// Default: a bidder that owes forfeits a tenth of its value, and its pending entries.
 mod default_parts;
 
 use market::answer::Answer;
