@@ -4,7 +4,7 @@
 # Needs cc and cargo, as Debian's packages gcc and cargo have them, and installs nothing.
 set -euo pipefail
 cd "$(dirname "$0")/.."
-seconds=${1:-20}
+seconds=${1:-10}
 for tool in cc cargo; do
     command -v "$tool" > /dev/null || { echo "outside: there is no $tool (Debian's packages gcc and cargo have cc and cargo)" >&2; exit 1; }
 done
