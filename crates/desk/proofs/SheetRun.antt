@@ -1,24 +1,20 @@
 -- A sheet that has the form: its calls up to open, the words of its rounds, and its output.
-use mathlib.Core.Path.{_≡_, refl, sym, _∙_, ap, ap₂, subst}
+use mathlib.Core.Path.{_≡_, refl, sym, _∙_, ap, ap₂}
 use mathlib.Core.Bool.{Bool, true, _&&_}
 use mathlib.Core.List.{List, [], _∷_, _++_, map}
 use Prim.Native.Nat.{ℕ, zero, suc, _+_, _≤_}
 use native.Mathlib.Omega.{arith}
-use lib.ListN.{length, getD, take, drop, length-take, length-drop, length-replicate}
+use lib.ListN.{length, getD, take, drop, length-take, length-drop}
 use lib.Seq.{take-append-seam, length-take-le}
-use Rattle.market.proofs.Tables.{is-taken}
-use Rattle.market.specs.Answers.{answerNumber, answered, firstOf}
-use Rattle.market.specs.Books.{cents, dayNumber, every}
-use Rattle.market.specs.Fresh.{fresh, freshRefusals, freshBook, noBook}
-use Rattle.market.specs.Limits.{bidderLimit, registerWords}
+use Rattle.market.specs.Answers.{answerNumber, answered}
+use Rattle.market.specs.Books.{dayNumber, every}
+use Rattle.market.specs.Fresh.{fresh}
+use Rattle.market.specs.Limits.{bidderLimit}
 use Rattle.market.specs.declared.answer.Outcome.{Outcome}
-use Rattle.market.specs.declared.book.Book.{Book}
 use Rattle.market.specs.declared.book.Kind.{Kind}
 use Rattle.market.specs.declared.book.Kind.the-variants.{Short, Long}
 use Rattle.market.specs.declared.book.Period.{Period}
 use Rattle.text.specs.Put.{putAt}
-use Rattle.funding.specs.declared.Funds.{Funds}
-use Rattle.funding.specs.declared.Funds.the-variants.{Cash, Letter}
 use Rattle.opening.specs.Open.{«open»}
 use Rattle.keeping.proofs.KeepOpen.{open-keeps}
 use Rattle.keeping.specs.State.{State}
@@ -33,9 +29,8 @@ use Rattle.sheets.specs.Words.{wordsOf}
 use Rattle.sheets.specs.declared.form.Form.the-variants.{Right}
 use Rattle.sheets.specs.declared.rows.BidderLine.{BidderLine}
 use Rattle.sheets.specs.declared.rows.PathLine.{PathLine}
-use Rattle.market.proofs.Tables.{none-refused}
 use Rattle.preparing.proofs.KeepDeposits.{next-keeps, deposits-keep, fresh-keeps}
-use Rattle.preparing.specs.Preparing.{unlessRefused, andThen, depositIf, lineDeposits, deposits, routesOf, quantitiesOf, emptyRegister, opened}
+use Rattle.preparing.specs.Preparing.{unlessRefused, andThen, deposits, routesOf, quantitiesOf, emptyRegister, opened}
 use Rattle.preparing.specs.PreparedSlots.{isListed}
 use Rattle.award_sheet.specs.AwardSheet.{isBidder, refusedText}
 use Rattle.round_output.specs.Rounds.{Progress, roundsFrom, begun, ended, roundOf, outputFrom}

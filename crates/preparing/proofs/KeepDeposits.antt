@@ -1,9 +1,9 @@
 -- The book stays sound from a fresh one through the deposits, whether or not each is answered.
-use mathlib.Core.Path.{_≡_, sym, _∙_, ap, subst}
+use mathlib.Core.Path.{_≡_, sym, ap, subst}
 use mathlib.Core.List.{List, [], _∷_}
-use Prim.Native.Nat.{ℕ, zero, suc, _≤_}
+use Prim.Native.Nat.{ℕ, zero, suc}
 use native.Mathlib.Omega.{arith}
-use lib.ListN.{length, length-replicate}
+use lib.ListN.{length-replicate}
 use Rattle.market.proofs.Tables.{is-taken, none-refused}
 use Rattle.market.specs.Answers.{answerNumber, answered, firstOf}
 use Rattle.market.specs.Books.{cents}

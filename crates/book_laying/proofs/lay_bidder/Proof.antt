@@ -1,11 +1,9 @@
 use Prim.Native.Nat.{_<_, _^_}
 use borrow.Author.Tests.{lt-ltb}
-use mathlib.Core.List.{_∷_, []}
-use native.Mathlib.Numerals.{add-one, add-two, add-three, add-four, add-five}
-use lib.Seq.{sets-eq}
 use native.Mathlib.Omega.{arith}
 use lib.ListN.{length-set}
 use borrow.Author.Needs.{needs}
+use Rattle.register.proofs.WordLaws.{six-stores}
 use Rattle.book_laying.proofs.lay_bidder.Statement.{statement}
 use Rattle.book_laying.proofs.lay_bidder.Tie as tie
 
@@ -72,8 +70,7 @@ returns c =
     let at = a .at in
     let x = a .bidder in
     let step : x .step < 2 ^ 32 = search needs in (
-      rw (add-one at, add-two at, add-three at, add-four at, add-five at)
-          (sets-eq (x .cash .0 ∷ x .applied .0 ∷ x .letter .0 ∷ x .hold .0 ∷ x .owed .0 ∷ x .step ∷ []) (a .words .now) at (omega arith)),
+      six-stores (a .words .now) at (x .cash .0) (x .applied .0) (x .letter .0) (x .hold .0) (x .owed .0) (x .step) (omega arith),
       lt-ltb (x .step) (2 ^ 32) step,
     )
 

@@ -1,6 +1,5 @@
 use mathlib.Core.Path.{_∙_}
 use Rattle.preparing.proofs.DepositLaws.{none-deposited, some-deposited}
-use borrow.Author.Needs.{needs}
 use Rattle.preparing.proofs.deposits.deposit_if.Statement.{statement}
 use Rattle.preparing.proofs.deposits.deposit_if.Tie as tie
 
