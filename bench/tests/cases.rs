@@ -44,11 +44,6 @@ fn compare(directory: &str, word: &str, output: fn(&[u8]) -> Vec<u8>) {
 }
 
 #[test]
-fn form() {
-    compare("cases_form", "sheet", sheets::output);
-}
-
-#[test]
 fn sheet_cases() {
     compare("cases_sheets", "sheet", sheets::output);
 }

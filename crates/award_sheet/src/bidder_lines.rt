@@ -34,7 +34,7 @@ fn put_bidder_lines(out: &mut [u8], at: usize, book: Book, listed: &[u32]) -> us
     let mut end = at;
     for i in 0..listed.len() {
         let number = listed[i];
-        end = put_bidder_line(out, end, number, book.bidder(number));
+        end = put_bidder_line(out, end, number, book_parts::bidder(book, number));
     }
     end
 }

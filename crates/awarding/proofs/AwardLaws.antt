@@ -15,7 +15,7 @@ use Rattle.market.specs.Books.{every}
 use Rattle.market.specs.Limits.{pathLimit, bidLimit, quantityLimit, pairWords}
 use Rattle.market.specs.Sound.{soundQuantity}
 use Rattle.awards.specs.Awards.{Lot, Award, takenOf, leftAfter, walk, wonBy, soldOn, priceOn, lower}
-use Rattle.ordering.specs.Packed.{placeIn, lotIn, fits}
+use Rattle.lots.specs.Packed.{placeIn, lotIn, fits}
 use Rattle.awarding.specs.Tables.{wonTable, soldTable, priceTable}
 use Rattle.awarding.proofs.TableLaws.{table-is, lower-none, lower-assoc}
 

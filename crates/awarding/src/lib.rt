@@ -12,7 +12,7 @@ ghost use Rattle.market.specs.Sound.{soundQuantity};
 ghost use Rattle.awards.specs.Awards.{lower, walk, awardsOf};
 ghost use Rattle.bids.proofs.Walk.{soundList};
 ghost use Rattle.bids.specs.Bids.{bidsOf};
-ghost use Rattle.ordering.specs.Packed.{lotIn, fits};
+ghost use Rattle.lots.specs.Packed.{lotIn, fits};
 ghost use Rattle.awarding.specs.Tables.{wonTable, soldTable, priceTable};
 
 // The MW that each bid won, the MW sold of each path, and its clearing price, 0 where there is none.
@@ -60,7 +60,7 @@ fn price_at(taken: u32, price: u64) -> u64
 
 // The awards of laminations that stand in order in the first words of the scratch, where the round offers so much of each
 // path. `left` has what is left of each.
-pub fn award(words: &[u32], order: &[u32], lots: usize, offered: [u32; Engine::PATHS]) -> Awarded
+fn award(words: &[u32], order: &[u32], lots: usize, offered: [u32; Engine::PATHS]) -> Awarded
     requires { ⌜ lots ≤ length (now order) ⌝ }
     requires { ⌜ lots ≤ scratchWords ⌝ }
     requires { ⌜ every (fits (now words)) (take lots (now order)) ≡ true ⌝ }
@@ -74,7 +74,7 @@ pub fn award(words: &[u32], order: &[u32], lots: usize, offered: [u32; Engine::P
     let mut sold = [0; Engine::PATHS];
     let mut prices = [0; Engine::PATHS];
     for i in 0..lots {
-        let lot = ordering::lot_in(words, order[i]);
+        let lot = lots::lot_in(words, order[i]);
         let quantity = lot.quantity;
         let price = lot.price;
         let bid = lot.bid;

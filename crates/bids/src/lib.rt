@@ -63,7 +63,7 @@ pub fn pair_words(count: u32) -> usize
 }
 
 // What a pair bids in all.
-pub fn lamination_value(lamination: Lamination) -> Cents
+fn lamination_value(lamination: Lamination) -> Cents
     requires { ⌜ soundLamination lamination ≡ true ⌝ }
     ensures { λ r. ⌜ r ≡ cents (laminationValue lamination) ⌝ }
     ensures { λ r. ⌜ r .0 ≤ laminationValueLimit ⌝ }

@@ -18,18 +18,18 @@ fn own_refusal(book: Book, bidder: u32, amount: Cents) -> u32
     ensures { λ r. ⌜ r ≡ firstOf (payRefusals book bidder amount) ⌝ }
 {
     let stage = book.stage;
-    if !soundness::is_idle(stage) {
+    if !conditions::is_idle(stage) {
         return Refusal::STAGE;
     }
     if bidder as usize >= Engine::BIDDERS {
         return Refusal::BIDDER;
     }
-    let payer = book.bidder(bidder);
+    let payer = book_parts::bidder(book, bidder);
     let owed = payer.owed;
     if amount.0 != owed.0 {
         return Refusal::PAYMENT;
     }
-    if soundness::no_value(payer) {
+    if conditions::no_value(payer) {
         return Refusal::NOTHING_DUE;
     }
     let account = book.account;
@@ -43,7 +43,7 @@ fn own_refusal(book: Book, bidder: u32, amount: Cents) -> u32
 pub fn refusal(book: Book, words: &[u32], bidder: u32, amount: Cents) -> u32
     ensures { λ r. ⌜ r ≡ firstOf (payTable book (now (words .entry)) bidder amount) ⌝ }
 {
-    let number = register::refusal(book, words);
+    let number = register_soundness::refusal(book, words);
     if number != Refusal::NONE {
         return number;
     }
@@ -83,9 +83,9 @@ pub fn book_paid(book: Book, bidder: u32) -> Book
     requires { ⌜ bidder < bidderLimit ⌝ }
     ensures { λ r. ⌜ r ≡ bookPaid book bidder ⌝ }
 {
-    let payer = book.bidder(bidder);
+    let payer = book_parts::bidder(book, bidder);
     let account = book.account;
     let after = balance::plus(account, crate::value(payer));
-    book.with_bidder(bidder, paid_bidder(payer))
-        .with_account(after)
+    let paid = book_parts::with_bidder(book, bidder, paid_bidder(payer));
+    book_parts::with_account(paid, after)
 }

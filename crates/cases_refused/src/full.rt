@@ -36,7 +36,7 @@ pub fn filled(count: usize) -> [u32; WORDS]
 
 // A book with so many entries, whose auction is open; 60 MW are offered.
 fn opened(words: &mut [u32], entries: usize) -> Book {
-    let given = calls::fresh(1).with_entries(entries);
+    let given = book_parts::with_entries(calls::fresh(1), entries);
     let letter = calls::deposit(given, 7, Funds::Letter, 1_000_000);
     let other = calls::deposit(letter.book, 8, Funds::Letter, 1_000_000);
     let third = calls::deposit(other.book, 9, Funds::Letter, 1_000_000);

@@ -12,7 +12,7 @@ const WORDS: usize = Engine::REGISTER_WORDS;
 // A book with two paths, and bidder 3's cash and bidder 7's letter; its auction is open, with so many entries in the register.
 fn opened(register: [u32; WORDS], entries: usize) -> Book {
     let mut words = register;
-    let given = calls::fresh(2).with_entries(entries);
+    let given = book_parts::with_entries(calls::fresh(2), entries);
     let cash = calls::deposit(given, 3, Funds::Cash, 100_000);
     let letter = calls::deposit(cash.book, 7, Funds::Letter, 1_000_000);
     let quantities = [0u32, 60, 60, 60, 0, 40, 40, 40];
@@ -142,10 +142,10 @@ fn short_lists() {
 fn idle_order() {
     let words = full::filled(1_024);
     let bids = [0u32; Engine::BID_LIST_WORDS + 1];
-    let unsound = calls::fresh(2).with_entries(1_025);
+    let unsound = book_parts::with_entries(calls::fresh(2), 1_025);
     short_answers(unsound, words, &bids);
     apart(unsound, words, &bids);
-    apart(unsound.with_entries(1_024), words, &bids);
+    apart(book_parts::with_entries(unsound, 1_024), words, &bids);
 }
 
 // The list's length and its first bid are at fault, and then the bid alone.
@@ -172,7 +172,7 @@ fn bid_order() {
     second(book, words, 400, 0, 99);
     second(book, words, 400, 1, 99);
     second(book, words, 400, 1, 100);
-    second(book.with_entries(1_022), words, 400, 1, 100);
+    second(book_parts::with_entries(book, 1_022), words, 400, 1, 100);
 }
 
 // A round of the first so many words of two bids.

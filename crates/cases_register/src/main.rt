@@ -11,7 +11,6 @@ use market::book::Period;
 use market::book::Route;
 use market::book::Stage;
 use market::engine::Engine;
-use market::units::Balance;
 use market::units::Cents;
 use market::units::Day;
 use market::units::Megawatts;
@@ -21,6 +20,13 @@ ghost use lib.ListN.{length};
 const WORDS: usize = Engine::REGISTER_WORDS;
 
 const BLANK: u32 = 7;
+
+// The calls that are made.
+enum Call {
+    Pay { bidder: u32, amount: u64 },
+    Default { bidder: u32 },
+    Retire { day: u32 },
+}
 
 fn entry(bidder: u32, megawatts: u32, last: u32, state: u32) -> Entry {
     Entry {
@@ -92,10 +98,8 @@ fn show_answer(outcome: Outcome) {
     }
 }
 
-// The answer, the account, a bidder, the register's count and its first words, and how many words past them are not blank.
-fn show(outcome: Outcome, number: usize, words: &[u32], end: usize) {
-    show_answer(outcome);
-    let book = outcome.book;
+// The account, a bidder and the register's count.
+fn show_book(book: Book, number: usize) {
     let account = book.account;
     report::text(b" account");
     report::signed(account);
@@ -105,6 +109,10 @@ fn show(outcome: Outcome, number: usize, words: &[u32], end: usize) {
     }
     report::text(b" entries");
     report::number(book.entries as u64);
+}
+
+// The register's first words, and how many words past them are not blank.
+fn show_register(words: &[u32], end: usize) {
     report::text(b" words");
     show_words(words, end);
     report::text(b" past");
@@ -120,64 +128,81 @@ fn two_entries(words: &mut [u32])
     register::append(words, 1, entry(7, 10, 9_221, Engine::PENDING));
 }
 
-fn default_three() {
+// A register with a pending entry between two that are issued.
+fn three_entries(words: &mut [u32])
+    requires { ⌜ 18 ≤ length (now words) ⌝ }
+{
+    register::append(words, 0, entry(1, 5, 9_200, Engine::ISSUED));
+    register::append(words, 1, entry(2, 6, 9_200, Engine::PENDING));
+    register::append(words, 2, entry(3, 7, 9_201, Engine::ISSUED));
+}
+
+// One of the three calls, made.
+fn made(book: Book, words: &mut [u32], what: Call) -> Outcome {
+    match what {
+        Call::Pay { bidder, amount } => billing::pay(book, words, bidder, Cents(amount)),
+        Call::Default { bidder } => defaulting::default(book, words, bidder),
+        Call::Retire { day } => retire::retire(book, words, Day(day)),
+    }
+}
+
+// A call, and what it leaves of a bidder and of the register.
+fn run(book: Book, words: &mut [u32], what: Call, number: usize, end: usize) {
+    let outcome = made(book, words, what);
+    show_answer(outcome);
+    show_book(outcome.book, number);
+    show_register(words, end);
+}
+
+// A call, and its answer alone.
+fn ask(book: Book, words: &mut [u32], what: Call) {
+    show_answer(made(book, words, what));
+}
+
+// A call over the two entries of the sheet, and what it leaves of a bidder.
+fn sheet_case(number: usize, what: Call) {
     let mut words = [BLANK; WORDS];
     two_entries(&mut words);
+    run(book_of_sheet(2), &mut words, what, number, 12);
+}
+
+fn default_three() {
     report::text(b"bidder 3 defaults");
-    show(
-        defaulting::default(book_of_sheet(2), &mut words, 3),
-        3,
-        &words,
-        12,
-    );
+    sheet_case(3, Call::Default { bidder: 3 });
 }
 
 fn default_seven() {
-    let mut words = [BLANK; WORDS];
-    two_entries(&mut words);
     report::text(b"bidder 7 defaults");
-    show(
-        defaulting::default(book_of_sheet(2), &mut words, 7),
-        7,
-        &words,
-        12,
-    );
+    sheet_case(7, Call::Default { bidder: 7 });
 }
 
 fn pay_three(amount: u64) {
-    let mut words = [BLANK; WORDS];
-    two_entries(&mut words);
     report::text(b"bidder 3 pays");
     report::number(amount);
-    show(
-        billing::pay(book_of_sheet(2), &mut words, 3, Cents(amount)),
-        3,
-        &words,
-        12,
-    );
+    sheet_case(3, Call::Pay { bidder: 3, amount });
 }
 
 // Bidder 5 with these amounts pays, or defaults, over an empty register.
-fn pay_five(payer: Bidder, amount: u64) {
+fn five_case(given: Bidder, what: Call) {
     let mut words = [BLANK; WORDS];
-    let mut book = book_of_sheet(0);
-    book.bidders[5] = payer;
-    report::text(b"bidder 5 pays");
-    report::number(amount);
-    show(
-        billing::pay(book, &mut words, 5, Cents(amount)),
+    run(
+        book_parts::with_bidder(book_of_sheet(0), 5, given),
+        &mut words,
+        what,
         5,
-        &words,
         0,
     );
 }
 
+fn pay_five(payer: Bidder, amount: u64) {
+    report::text(b"bidder 5 pays");
+    report::number(amount);
+    five_case(payer, Call::Pay { bidder: 5, amount });
+}
+
 fn default_five(debtor: Bidder) {
-    let mut words = [BLANK; WORDS];
-    let mut book = book_of_sheet(0);
-    book.bidders[5] = debtor;
     report::text(b"bidder 5 defaults");
-    show(defaulting::default(book, &mut words, 5), 5, &words, 0);
+    five_case(debtor, Call::Default { bidder: 5 });
 }
 
 fn amounts() {
@@ -193,45 +218,77 @@ fn amounts() {
 
 // A step up with a default, and down with a payment: 10, 8, 5, 1 and back.
 fn step_case(step: u32) {
-    let mut words = [BLANK; WORDS];
-    let mut book = book_of_sheet(0);
     let mut debtor = bidder(10_000, 0, 0, 0, 10);
     debtor.step = step;
-    book.bidders[5] = debtor;
     report::text(b"step");
     report::number(step as u64);
-    let up = defaulting::default(book, &mut words, 5);
-    let after = up.book;
-    show_step(after);
-    let down = billing::pay(book, &mut words, 5, Cents(10));
-    let paid = down.book;
-    show_step(paid);
+    show_step(debtor, Call::Default { bidder: 5 });
+    show_step(
+        debtor,
+        Call::Pay {
+            bidder: 5,
+            amount: 10,
+        },
+    );
     report::line();
 }
 
-fn show_step(book: Book) {
-    let stepped = book.bidders[5];
+// The step of bidder 5 after a call.
+fn show_step(debtor: Bidder, what: Call) {
+    let mut words = [BLANK; WORDS];
+    let outcome = made(
+        book_parts::with_bidder(book_of_sheet(0), 5, debtor),
+        &mut words,
+        what,
+    );
+    let stepped = book_parts::bidder(outcome.book, 5);
     report::number(stepped.step as u64);
+}
+
+// Pay, default and retire over a book and a register.
+fn ask_all(book: Book, words: &mut [u32]) {
+    ask(
+        book,
+        words,
+        Call::Pay {
+            bidder: 3,
+            amount: 650_000,
+        },
+    );
+    ask(book, words, Call::Default { bidder: 3 });
+    ask(book, words, Call::Retire { day: 0 });
+    report::line();
 }
 
 fn short_register() {
     let mut words = [BLANK; WORDS - 1];
-    let book = book_of_sheet(0);
     report::text(b"6,143 words");
-    show_answer(billing::pay(book, &mut words, 3, Cents(650_000)));
-    show_answer(defaulting::default(book, &mut words, 3));
-    show_answer(retire::retire(book, &mut words, Day(0)));
-    report::line();
+    ask_all(book_of_sheet(0), &mut words);
+}
+
+// A call over the two entries of the sheet where the book counts so many.
+fn ask_counted(entries: usize, what: Call) {
+    let mut words = [BLANK; WORDS];
+    two_entries(&mut words);
+    ask(book_of_sheet(entries), &mut words, what);
 }
 
 fn refusals() {
-    let mut words = [BLANK; WORDS];
-    two_entries(&mut words);
+    let what = Call::Pay {
+        bidder: 3,
+        amount: 650_000,
+    };
     report::text(b"three counted, 1,025 counted, bidder 32, day 65,536");
-    show_answer(billing::pay(book_of_sheet(3), &mut words, 3, Cents(650_000)));
-    show_answer(billing::pay(book_of_sheet(1_025), &mut words, 3, Cents(650_000)));
-    show_answer(billing::pay(book_of_sheet(2), &mut words, 32, Cents(0)));
-    show_answer(retire::retire(book_of_sheet(2), &mut words, Day(65_536)));
+    ask_counted(3, what);
+    ask_counted(1_025, what);
+    ask_counted(
+        2,
+        Call::Pay {
+            bidder: 32,
+            amount: 0,
+        },
+    );
+    ask_counted(2, Call::Retire { day: 65_536 });
     report::line();
 }
 
@@ -240,43 +297,24 @@ fn open_stage() {
     let mut words = [BLANK; WORDS];
     let idle = book_of_sheet(0);
     let paths = idle.paths;
-    let bidders = idle.bidders;
-    let account = Balance(0);
-    let book = Book {
-        paths,
-        path_count: 1,
-        bidders,
-        account,
-        entries: 0,
-        stage: Stage::Open {
-            kind: Kind::Long,
-            round: 2,
-            period: Period {
-                first: Day(0),
-                last: Day(0),
-            },
+    let stage = Stage::Open {
+        kind: Kind::Long,
+        round: 2,
+        period: Period {
+            first: Day(0),
+            last: Day(0),
         },
     };
     report::text(b"open stage");
-    show_answer(billing::pay(book, &mut words, 3, Cents(650_000)));
-    show_answer(defaulting::default(book, &mut words, 3));
-    show_answer(retire::retire(book, &mut words, Day(0)));
-    report::line();
+    ask_all(book_parts::with_auction(idle, paths, stage), &mut words);
 }
 
 fn retire_case(day: u32) {
     let mut words = [BLANK; WORDS];
-    register::append(&mut words, 0, entry(1, 5, 9_200, Engine::ISSUED));
-    register::append(&mut words, 1, entry(2, 6, 9_200, Engine::PENDING));
-    register::append(&mut words, 2, entry(3, 7, 9_201, Engine::ISSUED));
+    three_entries(&mut words);
     report::text(b"retire");
     report::number(day as u64);
-    show(
-        retire::retire(book_of_sheet(3), &mut words, Day(day)),
-        0,
-        &words,
-        18,
-    );
+    run(book_of_sheet(3), &mut words, Call::Retire { day }, 0, 18);
 }
 
 // A full register: every second entry is bidder 3's.
@@ -295,9 +333,8 @@ fn full_register() {
     report::text(b"full register, bidder 3 defaults");
     let outcome = defaulting::default(book_of_sheet(Engine::ENTRIES), &mut words, 3);
     show_answer(outcome);
-    let book = outcome.book;
     report::text(b" entries");
-    report::number(book.entries as u64);
+    report::number(outcome.book.entries as u64);
     report::text(b" first");
     show_words(&words, 6);
     report::line();

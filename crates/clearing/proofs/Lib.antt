@@ -1,4 +1,3 @@
 -- Laws about what a round leaves for its bids.
 pub mod ChargeLaws
-pub mod EntryLaws
 pub mod RowLaws

@@ -1,6 +1,4 @@
-// What a round leaves for its bids: charges, answers, and the entries of those that won.
-use market::book::Entry;
-use market::book::Period;
+// What a round leaves for its bids: charges and answers.
 use market::engine::Engine;
 use market::units::Cents;
 use market::units::Megawatts;
@@ -10,12 +8,11 @@ ghost use mathlib.Core.List.{_++_, _∷_, []};
 ghost use Prim.Native.Nat.{_+_, _*_, _≤_, _<_};
 ghost use lib.ListN.{length, take, drop};
 ghost use Rattle.market.specs.Books.{every, cents};
-ghost use Rattle.market.specs.Limits.{pathLimit, bidLimit, bidListWords, bidAnswerSize, bidAnswerWords, entryLimit, entryWords, registerWords};
+ghost use Rattle.market.specs.Limits.{pathLimit, bidLimit, bidListWords, bidAnswerSize, bidAnswerWords};
 ghost use Rattle.market.specs.Sound.{soundQuantity};
 ghost use Rattle.bids.proofs.Walk.{soundList};
 ghost use Rattle.bids.specs.Bids.{bidsOf, laminationValueLimit};
-ghost use Rattle.register.specs.Words.{entriesOf, written};
-ghost use Rattle.clearing.specs.Clearing.{soundPrice, withinCharges, chargesOf, bidRows, laid, ifWon, newEntries};
+ghost use Rattle.clearing.specs.Clearing.{soundPrice, withinCharges, chargesOf, bidRows, laid};
 
 // The charge for so many MW at a clearing price.
 fn charge(price: Cents, won: Megawatts) -> Cents
@@ -98,53 +95,4 @@ pub fn write_bids(
         k += 1;
         at = bids::bid_end(words, at);
     }
-}
-
-// An entry is added behind the counted ones where it has any MW. Returns the count.
-fn add_if_won(register: &mut [u32], count: usize, entry: Entry) -> usize
-    requires { ⌜ (count + length (ifWon entry)) * entryWords ≤ length (now register) ⌝ }
-    ensures count { λ r. ⌜ r ≡ count + length (ifWon entry) ⌝ }
-    ensures entries { λ r. ⌜ now (register .exit) ≡ written (now (register .entry)) (entriesOf (now (register .entry)) count ++ ifWon entry) ⌝ }
-{
-    let quantity = entry.quantity;
-    if quantity.0 == 0 {
-        return count;
-    }
-    register::append(register, count, entry);
-    count + 1
-}
-
-// The entries of the bids that won are added, in bid order. Returns the count.
-pub fn add_entries(
-    words: &[u32],
-    won: &[u32],
-    period: Period,
-    register: &mut [u32],
-    counted: usize,
-) -> usize
-    requires { ⌜ length (now words) ≤ bidListWords ⌝ }
-    requires { ⌜ soundList pathLimit (now words) ≡ true ⌝ }
-    requires { ⌜ bidLimit ≤ length (now won) ⌝ }
-    requires { ⌜ counted + length (newEntries period (now won) (bidsOf (now words))) ≤ entryLimit ⌝ }
-    requires { ⌜ registerWords ≤ length (now register) ⌝ }
-    ensures count { λ r. ⌜ r ≡ counted + length (newEntries period (now (won .entry)) (bidsOf (now (words .entry)))) ⌝ }
-    ensures entries { λ r. ⌜ now (register .exit) ≡ written (now (register .entry)) (entriesOf (now (register .entry)) counted ++ newEntries period (now (won .entry)) (bidsOf (now (words .entry)))) ⌝ }
-{
-    let mut count = counted;
-    let mut k: usize = 0;
-    let mut at: usize = 0;
-    while at < words.len() {
-        let header = bids::header_at(words, at);
-        let entry = Entry {
-            bidder: header.bidder,
-            path: header.path,
-            quantity: Megawatts(won[k]),
-            period,
-            state: Engine::PENDING,
-        };
-        count = add_if_won(register, count, entry);
-        k += 1;
-        at = bids::bid_end(words, at);
-    }
-    count
 }

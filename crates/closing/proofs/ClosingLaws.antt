@@ -1,31 +1,23 @@
--- Laws about bidders, paths and rows taken one by one.
+-- Laws about rows taken one by one.
 use mathlib.Core.Path.{_≡_, refl, sym, _∙_, ap}
 use mathlib.Core.List.{List, [], _∷_, _++_}
 use Prim.Native.Nat.{ℕ, zero, suc, _+_, _*_, _≤_}
 use native.Mathlib.Numerals.{add-one, add-two}
 use native.Mathlib.Omega.{arith}
-use lib.ListN.{length, getD, set, take, drop, length-append}
+use lib.ListN.{length, set, take, drop, length-append}
 use lib.Seq.{sets-eq}
-use Rattle.market.specs.Books.{noPath, noBidder}
 use Rattle.market.specs.Limits.{pathAnswerSize}
-use Rattle.market.specs.declared.book.Bidder.{Bidder}
-use Rattle.market.specs.declared.book.Path.{Path}
 use Rattle.clearing.proofs.RowLaws.{lay-next}
 use Rattle.clearing.specs.Clearing.{laid}
-use Rattle.closing.specs.Closing.{swept, sweptTo, withSold, soldTo, pathRow, pathRows}
-
-pub swept-next : (bidders : List Bidder) (charges : List ℕ) (i : ℕ) → set (sweptTo bidders charges i) i (swept (getD bidders i noBidder) (getD charges i 0)) ≡ sweptTo bidders charges (i + 1)
-swept-next bidders charges i = ap (sweptTo bidders charges) (let next : suc i ≡ i + 1 = omega arith in next)
-
-pub sold-next : (slots : List Path) (sold : List ℕ) (i : ℕ) → set (soldTo slots sold i) i (withSold (getD slots i noPath) (getD sold i 0)) ≡ soldTo slots sold (i + 1)
-sold-next slots sold i = ap (soldTo slots sold) (let next : suc i ≡ i + 1 = omega arith in next)
+use Rattle.closing.specs.Closing.{pathRow, pathRows}
 
 -- three stores next to each other
 pub three-stores : (l : List ℕ) (at a b c : ℕ) → at + 3 ≤ length l → set (set (set l at a) (at + 1) b) (at + 2) c ≡ take at l ++ (a ∷ b ∷ c ∷ []) ++ drop (at + 3) l
 three-stores l at a b c h = rw (add-one at, add-two at) (sets-eq (a ∷ b ∷ c ∷ []) l at h)
 
 module _ (offered sold prices : List ℕ) where
-  rows-length : (n : ℕ) → length (pathRows offered sold prices n) ≡ n * pathAnswerSize
+  -- three words a path
+  pub rows-length : (n : ℕ) → length (pathRows offered sold prices n) ≡ n * pathAnswerSize
   rows-length zero = refl
   rows-length (suc n) =
       let more = rows-length n in

@@ -1,2 +1,2 @@
--- Laws about what a round leaves for bidders and paths.
+-- Laws about the answers of the paths.
 pub mod ClosingLaws

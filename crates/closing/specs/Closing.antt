@@ -1,18 +1,12 @@
--- Document 01, what a round leaves for bidders and paths: "Then for each of the 32 bidders: its charges are added to owed; min(cash,
--- owed) moves from cash to applied and leaves owed; hold = min(letter, floor(owed/10))", and "48 for paths, each offered and sold
--- in this round, price or 0".
-use mathlib.Core.Bool.{Bool}
-use mathlib.Core.List.{List, [], _∷_, _++_, map}
+-- Document 01, what a round leaves for bidders, and its answers of paths: "Then for each of the 32 bidders: its charges are added to
+-- owed; min(cash, owed) moves from cash to applied and leaves owed; hold = min(letter, floor(owed/10))", and "48 for paths, each
+-- offered and sold in this round, price or 0".
+use mathlib.Core.List.{List, [], _∷_, _++_}
 use Prim.Native.Nat.{ℕ, zero, suc, _+_, _-_, _/_, min}
-use lib.ListN.{getD, set, replicate}
-use Rattle.market.specs.Books.{cents, megawatts, pathsOf, noPath, noBidder}
-use Rattle.market.specs.Limits.{pathLimit, bidderLimit}
-use Rattle.market.specs.Sound.{soundQuantity}
+use lib.ListN.{getD, set}
+use Rattle.market.specs.Books.{cents, noBidder}
+use Rattle.market.specs.Limits.{bidderLimit}
 use Rattle.market.specs.declared.book.Bidder.{Bidder}
-use Rattle.market.specs.declared.book.Book.{Book}
-use Rattle.market.specs.declared.book.Kind.{Kind}
-use Rattle.market.specs.declared.book.Path.{Path}
-use Rattle.offers.specs.Offers.{offeredIn}
 
 -- ---- Bidders
 
@@ -45,24 +39,6 @@ abbrev pub sweptAll : List Bidder → List ℕ → List Bidder
 sweptAll bidders charges = sweptTo bidders charges bidderLimit
 
 -- ---- Paths
-
--- what a round offers of each path, and nothing past the book's paths
-abbrev pub offeredBy : Kind → ℕ → Book → List ℕ
-offeredBy kind round b =
-    map (offeredIn kind round) (pathsOf b) ++ replicate (pathLimit - b .«path_count») 0
-
--- a path that has sold more of its offer
-abbrev pub withSold : Path → ℕ → Path
-withSold p more =
-    record { direction = p .direction; zone = p .zone; offer = p .offer; sold = megawatts (p .sold .0 + more) }
-
--- in a sound book no path has sold more than a quantity of MW
-abbrev pub soldWithin : Path → Bool
-soldWithin p = soundQuantity (p .sold .0)
-
-abbrev pub soldTo : List Path → List ℕ → ℕ → List Path
-soldTo slots sold zero = slots
-soldTo slots sold (suc n) = set (soldTo slots sold n) n (withSold (getD slots n noPath) (getD sold n 0))
 
 -- "each offered and sold in this round, price or 0": the rows of the first so many paths
 abbrev pub pathRow : List ℕ → List ℕ → List ℕ → ℕ → List ℕ

@@ -95,13 +95,13 @@ fn own_refusal(book: Book, bidder: u32) -> u32
     ensures { λ r. ⌜ r ≡ firstOf (defaultRefusals book bidder) ⌝ }
 {
     let stage = book.stage;
-    if !soundness::is_idle(stage) {
+    if !conditions::is_idle(stage) {
         return Refusal::STAGE;
     }
     if bidder as usize >= Engine::BIDDERS {
         return Refusal::BIDDER;
     }
-    let debtor = book.bidder(bidder);
+    let debtor = book_parts::bidder(book, bidder);
     let owed = debtor.owed;
     if owed.0 == 0 {
         return Refusal::NOTHING_DUE;
@@ -117,7 +117,7 @@ fn own_refusal(book: Book, bidder: u32) -> u32
 pub fn refusal(book: Book, words: &[u32], bidder: u32) -> u32
     ensures { λ r. ⌜ r ≡ firstOf (defaultTable book (now (words .entry)) bidder) ⌝ }
 {
-    let number = register::refusal(book, words);
+    let number = register_soundness::refusal(book, words);
     if number != Refusal::NONE {
         return number;
     }
@@ -130,9 +130,9 @@ pub fn book_forfeited(book: Book, bidder: u32) -> Book
     requires { ⌜ bidder < bidderLimit ⌝ }
     ensures { λ r. ⌜ r ≡ bookForfeited book bidder ⌝ }
 {
-    let debtor = book.bidder(bidder);
+    let debtor = book_parts::bidder(book, bidder);
     let account = book.account;
     let after = balance::plus(account, forfeit(debtor));
-    book.with_bidder(bidder, defaulted_bidder(debtor))
-        .with_account(after)
+    let defaulted = book_parts::with_bidder(book, bidder, defaulted_bidder(debtor));
+    book_parts::with_account(defaulted, after)
 }

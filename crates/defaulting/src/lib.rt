@@ -21,11 +21,11 @@ pub fn default(book: Book, words: &mut [u32], bidder: u32) -> Outcome
             book,
         };
     }
-    let drawn = default_parts::draw(book.bidder(bidder));
+    let drawn = default_parts::draw(book_parts::bidder(book, bidder));
     let count = book.entries;
     let left = entry_changes::remove(words, count, Removal::PendingOf(bidder));
     Outcome {
         answer: Answer::Drawn(drawn),
-        book: default_parts::book_forfeited(book, bidder).with_entries(left),
+        book: book_parts::with_entries(default_parts::book_forfeited(book, bidder), left),
     }
 }

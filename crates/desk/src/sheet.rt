@@ -75,7 +75,7 @@ pub fn run(bytes: &[u8], found: Found, out: &mut [u8]) -> usize
     let bidders = reading::bidders_of(bytes, found.bidders);
     let paths = reading::paths_of(bytes, found.paths);
     let kind = form::kind_in(bytes);
-    let start = preparing::opened(kind, reading::period_in(bytes), bidders, paths);
+    let start = sheet_opening::opened(kind, reading::period_in(bytes), bidders, paths);
     let answer = start.answer;
     let number = answer.number();
     if number != Refusal::NONE {
@@ -83,7 +83,7 @@ pub fn run(bytes: &[u8], found: Found, out: &mut [u8]) -> usize
     }
     let count = bidders.count;
     let lines = bidders.lines;
-    let numbers = preparing::numbers(lines);
+    let numbers = bidder_numbers::numbers(lines);
     let listed = &numbers[..count];
     match kind {
         Kind::Short => run_short(bytes, found, start.book, listed, out),

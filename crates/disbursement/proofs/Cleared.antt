@@ -16,9 +16,10 @@ use Rattle.market.specs.Sound.{soundBook}
 use Rattle.market.specs.declared.book.Book.{Book}
 use Rattle.market.specs.declared.units.Cents.{Cents}
 use Rattle.sharing.specs.Sharing.{total}
-use Rattle.disbursement.proofs.ShareLaws.{Alike, all-have-shares, shares-add-up}
-use Rattle.disbursement.specs.Disbursement.{Lent, longEnough, allLongEnough, columnsOf, sharesOf, accountAfter, withinBound, lentRefusals, totalRefusals, columnRefusals, refusals, outcome, written, sharesAfter}
-use Rattle.disbursement.specs.declared.columns.Columns.{Columns}
+use Rattle.pools.specs.Pools.{sharesOf, columnRefusals}
+use Rattle.pools.proofs.ShareLaws.{Alike, all-have-shares, shares-add-up}
+use Rattle.disbursement.specs.Disbursement.{Lent, longEnough, allLongEnough, columnsOf, accountAfter, withinBound, lentRefusals, totalRefusals, refusals, outcome, written, sharesAfter}
+use Rattle.pools.specs.declared.Columns.{Columns}
 use Rattle.disbursement.specs.declared.flow.Flow.{Flow}
 
 -- a sound book, and a total within the limit

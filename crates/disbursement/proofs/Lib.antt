@@ -1,5 +1,3 @@
 -- Laws about disburse and recover.
 pub mod Lists
-pub mod ColumnLaws
-pub mod ShareLaws
 pub mod Cleared

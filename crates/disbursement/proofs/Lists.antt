@@ -1,13 +1,10 @@
--- Laws about the lists that are copied, written and added.
-use mathlib.Core.Path.{_≡_, refl, sym, _∙_, ap}
-use mathlib.Core.List.{List, [], _∷_, map, map-id, append-nil}
-use Prim.Native.Nat.{ℕ, zero, suc, _+_, _-_, _≤_, _<_}
+-- Laws about the lists that are copied.
+use mathlib.Core.Path.{_≡_, _∙_}
+use mathlib.Core.List.{List, map, map-id, append-nil}
+use Prim.Native.Nat.{ℕ, _-_, _≤_}
 use native.Mathlib.Omega.{arith}
-use lib.ListN.{length, getD, take}
-use lib.Seq.{ext-getD}
+use lib.ListN.{take}
 use Rattle.market.proofs.Filled.{filled}
-use Rattle.sharing.specs.Sharing.{total}
-use Rattle.disbursement.specs.Disbursement.{together}
 
 -- a column that is copied from the front, at the end of the copy
 pub all-copied : (words : List ℕ) (n i : ℕ) → n ≤ i → i ≤ n → filled (λ (x : ℕ). x) words n 0 i ≡ take n words
@@ -15,32 +12,3 @@ all-copied words n i p q =
     let end : i ≡ n = omega arith in
     let none : n - n ≡ 0 = omega arith in
     rw (end, none) (append-nil (map (λ (x : ℕ). x) (take n words)) ∙ map-id (take n words))
-
--- two lists of cents together, for lists of one length
-no-shorter : (n : ℕ) → suc n ≡ 0 → ⊥
-no-shorter n p = omega arith
-
-pub together-length : (xs ys : List ℕ) → length xs ≡ length ys → length (together xs ys) ≡ length xs
-together-length [] ys h = refl
-together-length (x ∷ xs) [] h = absurd (no-shorter (length xs) h)
-together-length (x ∷ xs) (y ∷ ys) h = ap suc (together-length xs ys (omega arith))
-
-together-at : (xs ys : List ℕ) (j : ℕ) → length xs ≡ length ys → getD (together xs ys) j 0 ≡ getD xs j 0 + getD ys j 0
-together-at [] [] j h = omega arith
-together-at [] (y ∷ ys) j h = absurd (no-shorter (length ys) (sym h))
-together-at (x ∷ xs) [] j h = absurd (no-shorter (length xs) h)
-together-at (x ∷ xs) (y ∷ ys) zero h = refl
-together-at (x ∷ xs) (y ∷ ys) (suc j) h = together-at xs ys j (omega arith)
-
--- a list that has the sum at each place is the two together
-pub all-together : (xs ys zs : List ℕ) → length xs ≡ length ys → length zs ≡ length xs → ((j : ℕ) → j < length zs → getD zs j 0 ≡ getD xs j 0 + getD ys j 0) → zs ≡ together xs ys
-all-together xs ys zs p q h =
-    ext-getD 0 zs (together xs ys) (q ∙ sym (together-length xs ys p))
-    (λ (j : ℕ) (b : j < length zs). h j b ∙ sym (together-at xs ys j p))
-
--- and they add up to what the two add up to
-pub together-total : (xs ys : List ℕ) → length xs ≡ length ys → total (together xs ys) ≡ total xs + total ys
-together-total [] [] h = omega arith
-together-total [] (y ∷ ys) h = absurd (no-shorter (length ys) (sym h))
-together-total (x ∷ xs) [] h = absurd (no-shorter (length xs) h)
-together-total (x ∷ xs) (y ∷ ys) h = omega (arith, together-total xs ys (omega arith))

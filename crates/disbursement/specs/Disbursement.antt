@@ -2,22 +2,22 @@
 -- withdrawn at meters, energy withdrawn at interties (whole MWh)."
 use mathlib.Core.Bool.{Bool, not, _&&_}
 use mathlib.Core.List.{List, [], _∷_, _++_}
-use Prim.Native.Nat.{ℕ, _+_, _-_, _*_, _/_}
-use lib.Dec.{leb, ltb, eqb}
+use Prim.Native.Nat.{ℕ}
+use lib.Dec.{leb, eqb}
 use lib.IntN.{ℤ, pos, _+ℤ_, _-ℤ_}
 use lib.ListN.{length, take, drop}
 use lib.Signed.{leZ}
 use Rattle.market.specs.Answers.{Row, _gives_, firstOf, answered, decided, decidedList}
 use Rattle.market.specs.Books.{withAccount}
-use Rattle.market.specs.Limits.{bidderLimit, poolLimit, reserve, columnLimit}
+use Rattle.market.specs.Limits.{bidderLimit, poolLimit, reserve}
 use Rattle.market.specs.Sound.{soundBook}
 use Rattle.market.specs.declared.answer.Outcome.{Outcome}
 use Rattle.market.specs.declared.book.Book.{Book}
 use Rattle.market.specs.declared.units.Cents.{Cents}
-use Rattle.sharing.specs.Sharing.{total, eligible, poolShares}
+use Rattle.pools.specs.Pools.{sharesOf, columnRefusals}
+use Rattle.pools.specs.declared.Columns.{Columns}
 use Rattle.disbursement.specs.declared.flow.Flow.{Flow}
 use Rattle.disbursement.specs.declared.flow.Flow.the-variants.{Out, In}
-use Rattle.disbursement.specs.declared.columns.Columns.{Columns}
 
 -- ---- What is lent
 
@@ -58,37 +58,6 @@ columnsFrom provincial export meters interties =
 abbrev pub columnsOf : Lent → Columns
 columnsOf l = columnsFrom (l .provincial) (l .export) (l .meters) (l .interties)
 
--- ---- The shares
-
--- "all charges"
-abbrev pub allCharges : Columns → ℕ
-allCharges cols = total (cols .provincial) + total (cols .export)
-
--- "Provincial pool = floor(D × all provincial / all charges); export pool = the rest."
-abbrev pub provincialPool : ℕ → Columns → ℕ
-provincialPool d cols = d * total (cols .provincial) / allCharges cols
-
-abbrev pub exportPool : ℕ → Columns → ℕ
-exportPool d cols = d - provincialPool d cols
-
--- "A pool is shared by its energy column among those with a charge of its sort above 0": the weights of each pool
-abbrev pub provincialWeights : Columns → List ℕ
-provincialWeights cols = eligible (cols .provincial) (cols .meters)
-
-abbrev pub exportWeights : Columns → List ℕ
-exportWeights cols = eligible (cols .export) (cols .interties)
-
--- each participant's cents of two lists together
-abbrev pub together : List ℕ → List ℕ → List ℕ
-together (x ∷ xs) (y ∷ ys) = (x + y) ∷ together xs ys
-together [] ys = []
-together (x ∷ xs) [] = []
-
--- a participant's share: its cents of both pools
-unfoldable pub sharesOf : ℕ → Columns → List ℕ
-sharesOf d cols =
-    together (poolShares (provincialPool d cols) (provincialWeights cols)) (poolShares (exportPool d cols) (exportWeights cols))
-
 -- ---- The account
 
 -- "Disburse takes D from the account, recover adds D to it."
@@ -114,27 +83,6 @@ totalRefusals flow b d =
     ∷ (eqb (d .0) 0 gives 32)
     ∷ (not (leb (d .0) poolLimit) gives 32)
     ∷ (not (withinBound flow (accountAfter flow b d)) gives 32)
-    ∷ []
-
--- "a column total over 10^8": energy totals count everybody
-abbrev pub columnsWithin : Columns → Bool
-columnsWithin cols =
-    leb (total (cols .provincial)) columnLimit
-    && leb (total (cols .export)) columnLimit
-    && leb (total (cols .meters)) columnLimit
-    && leb (total (cols .interties)) columnLimit
-
--- "a pool above 0 with no eligible energy"
-abbrev pub unshared : ℕ → List ℕ → Bool
-unshared pool weights = ltb 0 pool && eqb (total weights) 0
-
--- 33 "a column total over 10^8, all charges 0, or a pool above 0 with no eligible energy"
-abbrev pub columnRefusals : ℕ → Columns → List Row
-columnRefusals d cols =
-    (not (columnsWithin cols) gives 33)
-    ∷ (eqb (allCharges cols) 0 gives 33)
-    ∷ (unshared (provincialPool d cols) (provincialWeights cols) gives 33)
-    ∷ (unshared (exportPool d cols) (exportWeights cols) gives 33)
     ∷ []
 
 abbrev pub refusals : Flow → Book → Cents → Lent → List Row

@@ -2,7 +2,6 @@
 use crate::columns;
 use crate::flow::Flow;
 use crate::parts;
-use crate::pools;
 use market::answer::Answer;
 use market::answer::Outcome;
 use market::answer::Refusal;

@@ -1,18 +1,11 @@
 // The columns of charges and energy, and the lent lists that they come from and the shares go to.
 use market::engine::Engine;
+use pools::Columns;
 ghost use mathlib.Core.Path.{_≡_};
 ghost use Prim.Native.Nat.{_≤_};
 ghost use lib.ListN.{length, take};
 ghost use Rattle.market.specs.Limits.{bidderLimit};
 ghost use Rattle.disbursement.specs.Disbursement.{lent, allLongEnough, columnsFrom};
-
-// For each participant its charges, in whole dollars, and its energy, in whole MWh.
-pub struct Columns {
-    pub provincial: [u32; Engine::BIDDERS],
-    pub export: [u32; Engine::BIDDERS],
-    pub meters: [u32; Engine::BIDDERS],
-    pub interties: [u32; Engine::BIDDERS],
-}
 
 // Whether each list that is lent has a word for each participant.
 pub fn all_long_enough(

@@ -3,7 +3,6 @@ mod call;
 mod columns;
 mod flow;
 mod parts;
-mod pools;
 
 use flow::Flow;
 use market::answer::Outcome;

@@ -1,12 +1,11 @@
 // The parts of disburse and recover that have to do with the book.
-use crate::columns::Columns;
 use crate::flow::Flow;
-use crate::pools;
 use market::answer::Refusal;
 use market::book::Book;
 use market::engine::Engine;
 use market::units::Balance;
 use market::units::Cents;
+use pools::Columns;
 ghost use mathlib.Core.Path.{_≡_};
 ghost use mathlib.Core.Bool.{true};
 ghost use mathlib.Core.List.{_++_};
@@ -15,7 +14,8 @@ ghost use Rattle.market.specs.Answers.{firstOf};
 ghost use Rattle.market.specs.Books.{balance, withAccount};
 ghost use Rattle.market.specs.Limits.{poolLimit};
 ghost use Rattle.market.specs.Sound.{soundBook};
-ghost use Rattle.disbursement.specs.Disbursement.{accountAfter, withinBound, totalRefusals, columnRefusals};
+ghost use Rattle.disbursement.specs.Disbursement.{accountAfter, withinBound, totalRefusals};
+ghost use Rattle.pools.specs.Pools.{columnRefusals};
 
 // The account with a total disbursed or recovered.
 fn account_after(flow: Flow, book: Book, total: Cents) -> Balance
@@ -35,8 +35,8 @@ fn within_bound(flow: Flow, after: Balance) -> bool
     ensures { λ r. ⌜ r ≡ withinBound flow (after .0) ⌝ }
 {
     match flow {
-        Flow::Out => balance::at_least(after, Cents(Engine::RESERVE)),
-        Flow::In => balance::at_most(after, Cents(0)),
+        Flow::Out => balance_signs::at_least(after, Cents(Engine::RESERVE)),
+        Flow::In => balance_signs::at_most(after, Cents(0)),
     }
 }
 
@@ -77,5 +77,5 @@ pub fn moved(flow: Flow, book: Book, total: Cents) -> Book
     ensures { λ r. ⌜ r ≡ withAccount book (accountAfter flow book total) ⌝ }
 {
     let after = account_after(flow, book, total);
-    book.with_account(after)
+    book_parts::with_account(book, after)
 }

@@ -30,10 +30,10 @@ pub fn deposit_sound(book: Book, bidder: u32, to: Funds, amount: Cents) -> Outco
             book,
         };
     }
-    let next = parts::credited_bidder(book.bidder(bidder), to, amount);
+    let next = parts::credited_bidder(book_parts::bidder(book, bidder), to, amount);
     Outcome {
         answer: Answer::Done,
-        book: book.with_bidder(bidder, next),
+        book: book_parts::with_bidder(book, bidder, next),
     }
 }
 
@@ -62,10 +62,10 @@ fn withdraw_sound(book: Book, bidder: u32, from: Funds, amount: Cents) -> Outcom
             book,
         };
     }
-    let next = parts::debited_bidder(book.bidder(bidder), from, amount);
+    let next = parts::debited_bidder(book_parts::bidder(book, bidder), from, amount);
     Outcome {
         answer: Answer::Done,
-        book: book.with_bidder(bidder, next),
+        book: book_parts::with_bidder(book, bidder, next),
     }
 }
 

@@ -68,7 +68,7 @@ pub fn deposit_refusal(book: Book, bidder: u32, to: Funds, amount: Cents) -> u32
     if number != Refusal::NONE {
         return number;
     }
-    if has_room(book.bidder(bidder), to, amount) {
+    if has_room(book_parts::bidder(book, bidder), to, amount) {
         Refusal::NONE
     } else {
         Refusal::AMOUNT
@@ -111,7 +111,7 @@ pub fn withdraw_refusal(book: Book, bidder: u32, from: Funds, amount: Cents) -> 
     if number != Refusal::NONE {
         return number;
     }
-    let most = withdrawable_of(book.bidder(bidder), from);
+    let most = withdrawable_of(book_parts::bidder(book, bidder), from);
     if amount.0 <= most.0 {
         Refusal::NONE
     } else {

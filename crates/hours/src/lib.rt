@@ -24,10 +24,10 @@ fn above_zero(price: Balance) -> u64
     requires { ⌜ soundAccount (price .0) ≡ true ⌝ }
     ensures { λ r. ⌜ r ≡ aboveZero (price .0) ⌝ }
 {
-    if balance::below_zero(price) {
+    if balance_signs::below_zero(price) {
         return 0;
     }
-    let size = balance::magnitude(price);
+    let size = balance_signs::magnitude(price);
     size.0
 }
 
@@ -36,8 +36,8 @@ fn below_zero(price: Balance) -> u64
     requires { ⌜ soundAccount (price .0) ≡ true ⌝ }
     ensures { λ r. ⌜ r ≡ aboveZero (negℤ (price .0)) ⌝ }
 {
-    if balance::below_zero(price) {
-        let size = balance::magnitude(price);
+    if balance_signs::below_zero(price) {
+        let size = balance_signs::magnitude(price);
         return size.0;
     }
     0

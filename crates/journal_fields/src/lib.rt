@@ -3,14 +3,11 @@
 use fields::Field;
 ghost use mathlib.Core.Path.{_≡_};
 ghost use Prim.Native.Nat.{_+_, _≤_};
-ghost use lib.IntN.{pos, negℤ};
 ghost use lib.ListN.{length, drop};
 ghost use Rattle.journal_fields.specs.JournalFields as rules;
 
-// The largest numbers that fit 64 bits, and 63 bits beside a sign.
+// The largest number that fits 64 bits.
 pub const WIDE_TOP: u64 = 18_446_744_073_709_551_615;
-
-pub const PRICE_TOP: u64 = 9_223_372_036_854_775_807;
 
 // The byte of the digit 0, and that of 9.
 const ZERO: u8 = 48;
@@ -23,12 +20,6 @@ pub struct Price {
     pub used: usize,
 }
 
-// Numbers that were read one behind another: how many, and the bytes that they take.
-pub struct Run {
-    pub count: usize,
-    pub used: usize,
-}
-
 // What stands from a place of a line on.
 pub fn behind(line: &[u8], at: usize) -> &[u8]
     requires { ⌜ at ≤ length (now line) ⌝ }
@@ -38,7 +29,7 @@ pub fn behind(line: &[u8], at: usize) -> &[u8]
 }
 
 // The number at a place, up to a limit.
-fn numeral_at(line: &[u8], at: usize, limit: u64) -> Field
+pub fn numeral_at(line: &[u8], at: usize, limit: u64) -> Field
     requires { ⌜ at ≤ length (now line) ⌝ }
     ensures field { λ r. ⌜ r ≡ rules.numeral limit (drop at (now (line .entry))) ⌝ }
     ensures fits { λ r. ⌜ at + r .used ≤ length (now (line .entry)) ⌝ }
@@ -133,99 +124,4 @@ pub fn choice_at(line: &[u8], at: usize, first: &[u8], second: &[u8]) -> Field
         };
     }
     Field { value: 0, used: 0 }
-}
-
-// A price of this size, above 0 and below.
-fn above(size: u64) -> i64
-    requires { ⌜ size ≤ rules.priceTop ⌝ }
-    ensures { λ r. ⌜ r ≡ pos size ⌝ }
-{
-    size as i64
-}
-
-fn below(size: u64) -> i64
-    requires { ⌜ size ≤ rules.priceTop ⌝ }
-    ensures { λ r. ⌜ r ≡ negℤ (pos size) ⌝ }
-{
-    0 - size as i64
-}
-
-// The price at a place behind its space.
-fn price_at(line: &[u8], at: usize) -> Price
-    requires { ⌜ at ≤ length (now line) ⌝ }
-    ensures price { λ r. ⌜ r ≡ rules.price (drop at (now (line .entry))) ⌝ }
-    ensures fits { λ r. ⌜ at + r .used ≤ length (now (line .entry)) ⌝ }
-{
-    if fields::starts_with(line, at, b" -") {
-        let size = numeral_at(line, at + 2, PRICE_TOP);
-        if size.value == 0 {
-            return Price { value: 0, used: 0 };
-        }
-        return Price {
-            value: below(size.value),
-            used: 2 + size.used,
-        };
-    }
-    let found = number_at(line, at, PRICE_TOP);
-    Price {
-        value: above(found.value),
-        used: found.used,
-    }
-}
-
-// The words, numbers of 32 bits, at a place, one behind another, put at the front of a list.
-pub fn words_at(line: &[u8], at: usize, out: &mut [u32]) -> Run
-    requires { ⌜ at ≤ length (now line) ⌝ }
-    ensures count { λ r. ⌜ r .count ≡ length (rules.wordsSaid (length (now (out .entry))) (drop at (now (line .entry)))) ⌝ }
-    ensures used { λ r. ⌜ r .used ≡ rules.wordsUsed (length (now (out .entry))) (drop at (now (line .entry))) ⌝ }
-    ensures fits { λ r. ⌜ at + r .used ≤ length (now (line .entry)) ⌝ }
-    ensures list { λ r. ⌜ now (out .exit) ≡ rules.laid (rules.wordsSaid (length (now (out .entry))) (drop at (now (line .entry)))) (now (out .entry)) ⌝ }
-{
-    let mut place = at;
-    let mut i = 0;
-    while i < out.len() {
-        let next = number_at(line, place, fields::WORD_TOP);
-        if next.used == 0 {
-            return Run {
-                count: i,
-                used: place - at,
-            };
-        }
-        out[i] = next.value as u32;
-        place += next.used;
-        i += 1;
-    }
-    Run {
-        count: i,
-        used: place - at,
-    }
-}
-
-// The prices at a place, one behind another, put at the front of a list.
-pub fn prices_at(line: &[u8], at: usize, out: &mut [i64]) -> Run
-    requires { ⌜ at ≤ length (now line) ⌝ }
-    ensures count { λ r. ⌜ r .count ≡ length (rules.pricesSaid (length (now (out .entry))) (drop at (now (line .entry)))) ⌝ }
-    ensures used { λ r. ⌜ r .used ≡ rules.pricesUsed (length (now (out .entry))) (drop at (now (line .entry))) ⌝ }
-    ensures fits { λ r. ⌜ at + r .used ≤ length (now (line .entry)) ⌝ }
-    ensures list { λ r. ⌜ now (out .exit) ≡ rules.laid (rules.pricesSaid (length (now (out .entry))) (drop at (now (line .entry)))) (now (out .entry)) ⌝ }
-{
-    let mut place = at;
-    let mut i = 0;
-    while i < out.len() {
-        let next = price_at(line, place);
-        if next.used == 0 {
-            return Run {
-                count: i,
-                used: place - at,
-            };
-        }
-        let value = next.value;
-        out[i] = value;
-        place += next.used;
-        i += 1;
-    }
-    Run {
-        count: i,
-        used: place - at,
-    }
 }

@@ -27,7 +27,7 @@ fn open_line(text: &[u8], words: &mut [u32]) -> Said
     ensures list { λ r. ⌜ now (words .exit) ≡ laid (wordsSaid (length (now (words .entry))) (drop (rules.opening (now (text .entry)) .used) (now (text .entry)))) (now (words .entry)) ⌝ }
 {
     let head = heads::opening_line(text);
-    let run = journal_fields::words_at(text, head.used, words);
+    let run = journal_series::words_at(text, head.used, words);
     let kind = head.kind;
     let period = head.period;
     if !(head.stands
@@ -42,7 +42,7 @@ fn round_line(text: &[u8], words: &mut [u32]) -> Said
     ensures said { λ r. ⌜ r ≡ rules.roundSaid (length (now (words .entry))) (now (text .entry)) ⌝ }
     ensures list { λ r. ⌜ now (words .exit) ≡ laid (wordsSaid (length (now (words .entry))) (now (text .entry))) (now (words .entry)) ⌝ }
 {
-    let run = journal_fields::words_at(text, 0, words);
+    let run = journal_series::words_at(text, 0, words);
     if 0 + run.used != text.len() {
         return Said::Faulty;
     }
@@ -54,7 +54,7 @@ fn payout_line(text: &[u8], prices: &mut [i64]) -> Said
     ensures list { λ r. ⌜ now (prices .exit) ≡ laid (pricesSaid (length (now (prices .entry))) (drop (rules.hourLine (now (text .entry)) .used) (now (text .entry)))) (now (prices .entry)) ⌝ }
 {
     let head = heads::hour_line(text);
-    let run = journal_fields::prices_at(text, head.used, prices);
+    let run = journal_series::prices_at(text, head.used, prices);
     let day = head.day;
     if !(head.stands & (head.used + run.used == text.len()) & (run.count == Engine::ZONES)) {
         return Said::Faulty;
@@ -85,7 +85,7 @@ fn share_line(text: &[u8], words: &mut [u32], disburse: bool) -> Said
     ensures list { λ r. ⌜ now (words .exit) ≡ laid (wordsSaid (length (now (words .entry))) (drop (number wideTop (now (text .entry)) .used) (now (text .entry)))) (now (words .entry)) ⌝ }
 {
     let total = journal_fields::number_at(text, 0, WIDE_TOP);
-    let run = journal_fields::words_at(text, total.used, words);
+    let run = journal_series::words_at(text, total.used, words);
     if !((total.used != 0) & (total.used + run.used == text.len()) & (run.count == COLUMN_WORDS)) {
         return Said::Faulty;
     }

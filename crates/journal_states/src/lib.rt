@@ -40,7 +40,7 @@ fn put_account(out: &mut [u8], account: Balance) -> usize
     ensures bytes { λ _. ⌜ now (out .exit) ≡ putAt (now (out .entry)) 0 (accountText (account .0)) ⌝ }
 {
     let size = size_of(account.0);
-    if balance::below_zero(account) {
+    if balance_signs::below_zero(account) {
         let next = text::put_bytes(out, 0, b"# book account -");
         return text::put_number(out, next, size);
     }

@@ -55,6 +55,14 @@ fn show_engine() {
     write(&out, used);
 }
 
+// What is read of a line: nothing of one that is too long.
+fn part_read(line: &[u8], over: bool) -> &[u8] {
+    if over | (LINE_BYTES < line.len()) {
+        return &line[..0];
+    }
+    line
+}
+
 // One line, and what stands behind it. A line that is too long is one that has not the form, as an empty one is.
 fn run_line(
     journal: Journal,
@@ -69,12 +77,8 @@ fn run_line(
     requires { ⌜ length (now prices) ≡ zones ⌝ }
     requires { ⌜ replyRoom ≤ length (now out) ⌝ }
 {
-    if over | (LINE_BYTES < line.len()) {
-        let away = replay::answer_line(journal, register, &line[..0], words, prices, out);
-        write(out, away.used);
-        return away.journal;
-    }
-    let replied = replay::answer_line(journal, register, line, words, prices, out);
+    let read = part_read(line, over);
+    let replied = replay::answer_line(journal, register, read, words, prices, out);
     write(out, replied.used);
     replied.journal
 }

@@ -28,7 +28,8 @@ use Rattle.offers.specs.Offers.{offerOf}
 use Rattle.payout.proofs.EarningLaws.{zone-within}
 use Rattle.register.specs.Entries.{outstanding}
 use Rattle.register.specs.Refusals.{registerRefusals, countedEntries}
-use Rattle.opening.specs.Open.{quantitiesAt, wordsNeeded, lentRefusals, openRefusals, openTable, openedPath, openedPaths, opened, «open»}
+use Rattle.opened_paths.specs.OpenedPaths.{quantitiesAt, wordsNeeded, openedPath, openedPaths}
+use Rattle.opening.specs.Open.{lentRefusals, openRefusals, openTable, opened, «open»}
 use Rattle.keeping.proofs.Lifting.{book-kept, none-moves, nothing-moved}
 use Rattle.keeping.proofs.Made.{sound-made, bidder-made}
 use Rattle.keeping.specs.Money.{worth, Moved}

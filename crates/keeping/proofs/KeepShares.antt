@@ -20,7 +20,8 @@ use Rattle.market.specs.declared.book.Book.{Book}
 use Rattle.market.specs.declared.units.Cents.{Cents}
 use Rattle.sharing.specs.Sharing.{total}
 use Rattle.disbursement.proofs.Cleared.{answered-shares}
-use Rattle.disbursement.specs.Disbursement.{Lent, columnsOf, sharesOf, accountAfter, withinBound, lentRefusals, totalRefusals, columnRefusals, refusals, outcome, sharesAfter, disburse, disbursed, recover, recovered}
+use Rattle.pools.specs.Pools.{sharesOf, columnRefusals}
+use Rattle.disbursement.specs.Disbursement.{Lent, columnsOf, accountAfter, withinBound, lentRefusals, totalRefusals, refusals, outcome, sharesAfter, disburse, disbursed, recover, recovered}
 use Rattle.disbursement.specs.declared.flow.Flow.{Flow}
 use Rattle.disbursement.specs.declared.flow.Flow.the-variants.{Out, In}
 use Rattle.keeping.proofs.Accounts.{taken-sound, added-sound}

@@ -25,6 +25,7 @@ use Rattle.defaulting.specs.Default as defaults
 use Rattle.billing.specs.Pay.{payTable, bookPaid, pay, payWords}
 use Rattle.retire.specs.Retire as retires
 use Rattle.payout.specs.Payout.{amountsOf, accountPaying, payoutTable, payout, payoutAmounts}
+use Rattle.pools.specs.Pools.{sharesOf}
 use Rattle.disbursement.specs.Disbursement as shares
 use Rattle.disbursement.specs.declared.flow.Flow.{Flow}
 use Rattle.disbursement.specs.declared.flow.Flow.the-variants.{Out, In}
@@ -90,7 +91,7 @@ module _ (b : Book) (d : Cents) (l : shares.Lent) where
       let n = firstOf (shares.refusals flow b d l) in
       let taken = answered (withAccount b (shares.accountAfter flow b d)) in (
         book-same b n taken refl is,
-        list-same b n taken refl is (l .shares) (shares.sharesOf (d .0) (shares.columnsOf l) ++ drop bidderLimit (l .shares)),
+        list-same b n taken refl is (l .shares) (sharesOf (d .0) (shares.columnsOf l) ++ drop bidderLimit (l .shares)),
       )
 
   pub disburse-refused : IsRefused (shares.disburse b d l) → (shares.disburse b d l .book ≡ b) × (shares.disbursed b d l ≡ l .shares)

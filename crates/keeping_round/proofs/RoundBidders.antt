@@ -19,7 +19,7 @@ use Rattle.market.specs.declared.book.Kind.{Kind}
 use Rattle.market.specs.declared.book.Kind.the-variants.{Short, Long}
 use Rattle.market.specs.declared.book.Stage.{Stage}
 use Rattle.closing.specs.Closing.{swept, sweptTo}
-use Rattle.round.specs.Round.{stageAfter}
+use Rattle.round_stage.specs.Stages.{stageAfter}
 use Rattle.keeping.proofs.KeepOpen.{every-next}
 use Rattle.keeping.proofs.Made.{bidder-made}
 use Rattle.keeping.proofs.Sums.{held-set}

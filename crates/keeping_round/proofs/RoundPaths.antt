@@ -1,6 +1,6 @@
 -- The paths and the stage that a round leaves are sound.
 use mathlib.Core.Path.{_≡_, refl, sym, _∙_, ap}
-use mathlib.Core.Bool.{Bool, true, false, cond, or-true, false≢true}
+use mathlib.Core.Bool.{Bool, true, false, cond, false≢true}
 use mathlib.Core.List.{List, [], _∷_, _++_, map}
 use Prim.Native.Nat.{ℕ, zero, suc, _+_, _-_, _/_, _≤_, _<_}
 use native.Mathlib.Nat.{le-refl}
@@ -9,7 +9,7 @@ use lib.Dec.{eqb}
 use lib.ListN.{getD, take, replicate}
 use lib.Seq.{getD-take}
 use borrow.Author.Tests.{le-leb, eqb-true}
-use Rattle.market.proofs.SoundLaws.{PathBounds, path-bounds}
+use Rattle.market.proofs.SoundLaws.{PathBounds, path-bounds, no-path-sound}
 use Rattle.market.proofs.Every.{both-true, every-at-any}
 use Rattle.market.proofs.Tests.{left-true, right-true}
 use Rattle.market.specs.Books.{every, _implies_, noPath}
@@ -21,8 +21,8 @@ use Rattle.market.specs.declared.book.Path.{Path}
 use Rattle.market.specs.declared.book.Stage.{Stage}
 use Rattle.market.specs.declared.book.Stage.the-variants.{Idle, Open}
 use Rattle.offers.specs.Offers.{offeredIn}
-use Rattle.closing.specs.Closing.{withSold, soldTo}
-use Rattle.round.specs.Round.{stageAfter}
+use Rattle.selling.specs.Selling.{withSold, soldTo}
+use Rattle.round_stage.specs.Stages.{stageAfter}
 use Rattle.keeping.proofs.KeepOpen.{every-next}
 
 -- ---- The stage
@@ -117,9 +117,6 @@ none-offered Long round = go (eqb round 1)
     go : (t : Bool) → cond t (0 / quarters) (0 - 0) ≡ 0
     go true = refl
     go false = refl
-
-no-path-sound : (round : ℕ) → soundPath round noPath ≡ true
-no-path-sound round = simp or-true
 
 -- the first paths have sold, and are sound
 paths-sell : (next : ℕ) (slots : List Path) (sold : List ℕ) (n : ℕ) → ((i : ℕ) → i < n → soundPath next (withSold (getD slots i noPath) (getD sold i 0)) ≡ true) → every (soundPath next) (take n (soldTo slots sold n)) ≡ true

@@ -7,7 +7,7 @@ use native.Mathlib.Omega.{arith}
 use lib.Dec.{leb, ltb, eqb}
 use lib.ListN.{length, getD, drop, length-drop, drop-of-length-le, List·getD-eq-default}
 use lib.Seq.{drop-drop, getD-drop}
-use borrow.Author.Tests.{ltb-true, leb-true, leb-false, le-leb, lt-leb, le-ltb, lt-ltb, eqb-true, eq-eqb, ne-eqb}
+use borrow.Author.Tests.{ltb-true, leb-true, leb-false, eqb-true, eq-eqb, ne-eqb}
 use Rattle.market.proofs.Tests.{right-true}
 use Rattle.market.specs.Limits.{bidderLimit}
 use Rattle.market.specs.declared.book.Direction.the-variants.{Export, Import}
@@ -17,7 +17,7 @@ use Rattle.text.specs.declared.Number.{Number}
 use Rattle.fields.specs.Fields.{space, newline, wordTop, amountTop, startsWith, spaced, fieldAt, both, numbersUsed}
 use Rattle.fields.specs.declared.Field.{Field}
 use Rattle.fields.proofs.ReadLaws.{starts-fit}
-use Rattle.lines.specs.Lines.{behind, titleWord, kindByte, isKind, kindPlace, daysPlace, titleUsed, bidderUsed, directionByte, isDirection, routeUsed, pathUsed, bidUsed, lineAt}
+use Rattle.lines.specs.Lines.{behind, titleWord, kindByte, isKind, kindPlace, daysPlace, titleUsed, directionByte, isDirection, routeUsed, pathUsed, bidUsed, lineAt}
 use Rattle.lines.specs.declared.part.Part.{Part}
 use Rattle.lines.specs.declared.part.Part.the-variants.{Bidders, Paths, Bids}
 
@@ -126,29 +126,6 @@ module _ (bytes : List ℕ) (at : ℕ) (word : List ℕ) where
     count-here e =
         ap (λ (g : Field). both (length word) (g .used)) is-counted
         ∙ sym (ap (λ (t : Bool). behind t (length word) (counted .used)) e)
-
--- ---- A bidder's line
-
-module _ (least : ℕ) (text : List ℕ) (f : Field) (is : f ≡ fieldAt amountTop space text) where
-  abbrev amounts : ℕ
-  amounts = numbersUsed amountTop newline 3 text
-
-  bidder-decides : (t : Bool) → (leb least (f .value) && ltb (f .value) bidderLimit) ≡ t → bidderUsed least text ≡ cond t amounts 0
-  bidder-decides t e =
-      ap (λ (g : Field). cond (leb least (g .value) && ltb (g .value) bidderLimit) amounts 0) (sym is)
-      ∙ ap (λ (t : Bool). cond t amounts 0) e
-
-  pub bidder-low : f .value < least → 0 ≡ bidderUsed least text
-  bidder-low h =
-      sym (bidder-decides false (ap (λ (t : Bool). t && ltb (f .value) bidderLimit) (lt-leb least (f .value) h)))
-
-  pub bidder-high : bidderLimit ≤ f .value → 0 ≡ bidderUsed least text
-  bidder-high h =
-      sym (bidder-decides false (ap (λ (t : Bool). leb least (f .value) && t) (le-ltb (f .value) bidderLimit h) ∙ and-false (leb least (f .value))))
-
-  pub bidder-here : least ≤ f .value → f .value < bidderLimit → (n : ℕ) → n ≡ amounts → n ≡ bidderUsed least text
-  bidder-here low high n e =
-      e ∙ sym (bidder-decides true (ap₂ _&&_ (le-leb least (f .value) low) (lt-ltb (f .value) bidderLimit high)))
 
 -- ---- A path's line
 

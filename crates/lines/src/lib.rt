@@ -2,16 +2,14 @@
 pub mod part;
 
 use fields::Field;
-use market::engine::Engine;
 use part::Part;
-use part::Step;
 ghost use mathlib.Core.Path.{_≡_};
 ghost use mathlib.Core.Bool.{_&&_, _||_};
 ghost use Prim.Native.Nat.{_+_, _≤_, _<_, _^_};
 ghost use lib.Dec.{eqb};
 ghost use lib.ListN.{length, getD, drop};
 ghost use Rattle.fields.specs.Fields.{space, newline, wordTop, startsWith, fieldAt, both as bothUsed};
-ghost use Rattle.lines.specs.Lines.{behind, titleUsed, countUsed, countSaid, bidderUsed, routeUsed, pathUsed, bidUsed, lineAt};
+ghost use Rattle.lines.specs.Lines.{behind, titleUsed, countUsed, countSaid, routeUsed, pathUsed, bidUsed};
 
 // The bytes of the kinds and of the directions.
 pub const SHORT: u8 = 83;
@@ -21,9 +19,6 @@ pub const LONG: u8 = 76;
 const EXPORT: u8 = 88;
 
 pub const IMPORT: u8 = 77;
-
-// How many bidders there are.
-const BIDDERS: u64 = Engine::BIDDERS as u64;
 
 // The bytes of two parts, the second behind the first; 0 where one does not stand.
 fn both(first: usize, second: usize) -> usize
@@ -112,22 +107,6 @@ pub fn count_line(bytes: &[u8], at: usize, part: Part) -> Field
     }
 }
 
-// A bidder's line: bidder, cash and letter. The bidder's number is at least the one given.
-pub fn bidder_used(bytes: &[u8], at: usize, least: u64) -> usize
-    requires { ⌜ at ≤ length (now bytes) ⌝ }
-    ensures bidder { λ r. ⌜ r ≡ bidderUsed least (drop at (now (bytes .entry))) ⌝ }
-    ensures fits { λ r. ⌜ at + r ≤ length (now (bytes .entry)) ⌝ }
-{
-    let bidder = fields::field_at(bytes, at, fields::AMOUNT_TOP, fields::SPACE);
-    if bidder.value < least {
-        return 0;
-    }
-    if BIDDERS <= bidder.value {
-        return 0;
-    }
-    fields::numbers_used(bytes, at, fields::AMOUNT_TOP, fields::NEWLINE, 3)
-}
-
 // A path's line behind its number: direction, zone, base, FUL, A and B.
 fn route_used(bytes: &[u8], at: usize) -> usize
     requires { ⌜ at ≤ length (now bytes) ⌝ }
@@ -172,30 +151,4 @@ pub fn bid_used(bytes: &[u8], at: usize) -> usize
         1 + 2 * pairs.value,
     );
     both(head, rest)
-}
-
-// A line of a section, by what the lines before it ask of it.
-pub fn line_at(part: Part, state: u64, bytes: &[u8], at: usize) -> Step
-    requires { ⌜ state + 1 < 2 ^ 64 ⌝ }
-    requires { ⌜ at ≤ length (now bytes) ⌝ }
-    ensures line { λ r. ⌜ r ≡ lineAt part state (drop at (now (bytes .entry))) ⌝ }
-    ensures fits { λ r. ⌜ at + r .used ≤ length (now (bytes .entry)) ⌝ }
-{
-    match part {
-        Part::Bidders => {
-            let bidder = fields::field_at(bytes, at, fields::AMOUNT_TOP, fields::SPACE);
-            Step {
-                used: bidder_used(bytes, at, state),
-                next: bidder.value + 1,
-            }
-        }
-        Part::Paths => Step {
-            used: path_used(bytes, at, state),
-            next: state + 1,
-        },
-        Part::Bids => Step {
-            used: bid_used(bytes, at),
-            next: state,
-        },
-    }
 }

@@ -8,7 +8,7 @@ use lib.ListN.{getD}
 use borrow.Author.Tests.{leb-true}
 use Rattle.market.proofs.Every.{every-at-any}
 use Rattle.market.proofs.Tests.{left-true, right-true}
-use Rattle.market.specs.Books.{every, _implies_, pathsOf, noBidder, bidderOf, noValue, heldOf}
+use Rattle.market.specs.Books.{every, _implies_, pathsOf, noPath, noBidder, bidderOf, noValue, heldOf}
 use Rattle.market.specs.Limits.{pathLimit, zoneLimit, quantityLimit, entryLimit, roundTwoOwedLimit, moneyLimit, owedLimit, stepLimit}
 use Rattle.market.specs.Sound.{soundPathCount, soundStage, roundOf, soundPath, soundBidder, soundAccount, soundBook}
 use Rattle.market.specs.declared.book.Bidder.{Bidder}
@@ -123,6 +123,10 @@ pub record PathBounds (round : ℕ) (p : Path) : Type 0 where
   pub start : (eqb round 1 implies eqb (p .sold .0) 0) ≡ true
   pub sold : p .sold .0 ≤ p .offer .0
   pub offer : p .offer .0 ≤ quantityLimit
+
+-- a path with nothing is sound at every round
+pub no-path-sound : (round : ℕ) → soundPath round noPath ≡ true
+no-path-sound round = simp or-true
 
 pub path-bounds : (round : ℕ) (p : Path) → soundPath round p ≡ true → PathBounds round p
 path-bounds round p h =

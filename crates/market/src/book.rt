@@ -5,9 +5,6 @@ use crate::units::Cents;
 use crate::units::Day;
 use crate::units::Megawatts;
 ghost use mathlib.Core.Path.{_≡_};
-ghost use Prim.Native.Nat.{_<_};
-ghost use Rattle.market.specs.Books.{bidderOf, withBidder, withAccount, withEntries, withAuction};
-ghost use Rattle.market.specs.Limits.{bidderLimit};
 ghost use Rattle.market.specs.Sound.{soundPathCount};
 
 // Which way a path leads: X out of Ontario, M into it.
@@ -70,62 +67,6 @@ pub struct Book {
     pub account: Balance,
     pub entries: usize,
     pub stage: Stage,
-}
-
-impl Book {
-    // The bidder of a number.
-    pub fn bidder(self, number: u32) -> Bidder
-        requires { ⌜ number < bidderLimit ⌝ }
-        ensures { λ r. ⌜ r ≡ bidderOf self number ⌝ }
-    {
-        let at = number as usize;
-        self.bidders[at]
-    }
-
-    // The book with another bidder at a number.
-    pub fn with_bidder(self, number: u32, bidder: Bidder) -> Book
-        requires { ⌜ number < bidderLimit ⌝ }
-        ensures { λ r. ⌜ r ≡ withBidder self number bidder ⌝ }
-    {
-        let at = number as usize;
-        let mut next = self;
-        next.bidders[at] = bidder;
-        next
-    }
-
-    // The book with another account.
-    pub fn with_account(self, account: Balance) -> Book
-        ensures { λ r. ⌜ r ≡ withAccount self (account .0) ⌝ }
-    {
-        let mut next = self;
-        next.account = account;
-        next
-    }
-
-    // The book with another count of the register's entries.
-    pub fn with_entries(self, entries: usize) -> Book
-        ensures { λ r. ⌜ r ≡ withEntries self entries ⌝ }
-    {
-        let mut next = self;
-        next.entries = entries;
-        next
-    }
-
-    // The book with other paths and another stage.
-    pub fn with_auction(self, paths: [Path; Engine::PATHS], stage: Stage) -> Book
-        ensures { λ r. ⌜ r ≡ withAuction self paths stage ⌝ }
-    {
-        let bidders = self.bidders;
-        let account = self.account;
-        Book {
-            paths,
-            path_count: self.path_count,
-            bidders,
-            account,
-            entries: self.entries,
-            stage,
-        }
-    }
 }
 
 // One entry of the register: a bidder's right on a path. `state` is Engine::PENDING or Engine::ISSUED; words that are

@@ -12,7 +12,8 @@ use Rattle.market.specs.declared.book.Book.{Book}
 use Rattle.market.specs.declared.book.Period.{Period}
 use Rattle.register.proofs.Cleared.{Lent, register-cleared}
 use Rattle.register.specs.Refusals.{registerRefusals}
-use Rattle.opening.specs.Open.{wordsNeeded, lentRefusals, openRefusals, openTable}
+use Rattle.opened_paths.specs.OpenedPaths.{wordsNeeded}
+use Rattle.opening.specs.Open.{lentRefusals, openRefusals, openTable}
 
 -- the quantities are lent for each path, and the register is lent whole and sound
 pub record AllLent (b : Book) (words quantities : List ℕ) : Type 0 where

@@ -1,3 +1,2 @@
 -- Laws about open.
 pub mod Cleared
-pub mod OpenedPaths

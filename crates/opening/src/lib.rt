@@ -15,6 +15,7 @@ ghost use Prim.Native.Nat.{_≤_};
 ghost use lib.ListN.{length};
 ghost use Rattle.market.specs.Answers.{firstOf};
 ghost use Rattle.register.specs.Refusals.{registerRefusals};
+ghost use Rattle.opened_paths.specs.OpenedPaths.{wordsNeeded};
 ghost use Rattle.opening.specs.Open as rules;
 
 // The refusal of the lent quantities, and 1 and 2 of the register; 0 where there is none.
@@ -25,23 +26,23 @@ fn lent_refusal(book: Book, words: &[u32], quantities: &[u32]) -> u32
     if quantities.len() / Engine::QUANTITY_WORDS < count {
         return Refusal::SHORT_BUFFER;
     }
-    register::refusal(book, words)
+    register_soundness::refusal(book, words)
 }
 
 // The refusals of open itself, 20, 21 and 25; 0 where there is none.
 fn own_refusal(book: Book, period: Period, quantities: &[u32]) -> u32
-    requires { ⌜ rules.wordsNeeded book ≤ length (now quantities) ⌝ }
+    requires { ⌜ wordsNeeded book ≤ length (now quantities) ⌝ }
     ensures { λ r. ⌜ r ≡ firstOf (rules.openRefusals book period (now (quantities .entry))) ⌝ }
 {
     let stage = book.stage;
-    if !soundness::is_idle(stage) {
+    if !conditions::is_idle(stage) {
         return Refusal::STAGE;
     }
     let bidders = book.bidders;
     if !parts::no_values(bidders) {
         return Refusal::STAGE;
     }
-    if !soundness::sound_period(period) {
+    if !conditions::sound_period(period) {
         return Refusal::DAYS;
     }
     let needed = book.path_count * Engine::QUANTITY_WORDS;
@@ -73,7 +74,7 @@ pub fn open(book: Book, words: &[u32], kind: Kind, period: Period, quantities: &
             book,
         };
     }
-    let paths = parts::opened_paths(book, words, kind, period, quantities);
+    let paths = opened_paths::opened_paths(book, words, kind, period, quantities);
     let stage = Stage::Open {
         kind,
         round: 1,
@@ -81,6 +82,6 @@ pub fn open(book: Book, words: &[u32], kind: Kind, period: Period, quantities: &
     };
     Outcome {
         answer: Answer::Done,
-        book: book.with_auction(paths, stage),
+        book: book_parts::with_auction(book, paths, stage),
     }
 }

@@ -1,6 +1,6 @@
 -- Laws about what entries earn and how amounts add up.
 use mathlib.Core.Path.{_≡_, refl, sym, _∙_, ap, ap₂}
-use mathlib.Core.Bool.{Bool, true, false, or-true}
+use mathlib.Core.Bool.{Bool, true, false}
 use mathlib.Core.List.{List, [], _∷_, _++_, map}
 use Prim.Native.Nat.{ℕ, zero, suc, _+_, _-_, _*_, _≤_, _<_, zero-le}
 use native.Mathlib.Nat.{mul-le-mul}
@@ -10,7 +10,7 @@ use lib.ListN.{length, getD, take, replicate, length-set, length-take}
 use lib.Seq.{getD-take}
 use Rattle.market.proofs.Every.{every-at-any}
 use Rattle.market.proofs.Filled.{filled}
-use Rattle.market.proofs.SoundLaws.{sound-parts, path-bounds}
+use Rattle.market.proofs.SoundLaws.{sound-parts, path-bounds, no-path-sound}
 use Rattle.market.specs.Books.{noPath, credit}
 use Rattle.market.specs.Limits.{zoneLimit, quantityLimit, zones, zonePriceLimit}
 use Rattle.market.specs.Sound.{roundOf, soundPath, soundBook}
@@ -30,14 +30,11 @@ use Rattle.sharing.specs.Sharing.{total}
 use Rattle.payout.specs.Payout.{rateOn, pathOf, credited, soundPrices}
 
 -- a path of a sound book leads to a zone
-nothing-sound : (round : ℕ) → soundPath round noPath ≡ true
-nothing-sound round = simp or-true
-
 pub zone-within : (b : Book) (i : ℕ) → soundBook b ≡ true → i < b .«path_count» → pathOf b i .zone ≤ zoneLimit
 zone-within b i h below =
     let round = roundOf (b .stage) in
     let p = getD (take (b .«path_count») (b .paths)) i noPath in
-    let all = every-at-any (soundPath round) (take (b .«path_count») (b .paths)) i noPath (sound-parts b h .paths) (nothing-sound round) in
+    let all = every-at-any (soundPath round) (take (b .«path_count») (b .paths)) i noPath (sound-parts b h .paths) (no-path-sound round) in
     let is : p ≡ pathOf b i = getD-take (b .«path_count») (b .paths) i noPath below in
     rw is at (path-bounds round p all .zone)
 

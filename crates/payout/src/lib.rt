@@ -27,7 +27,7 @@ fn lent_refusal(book: Book, words: &[u32], prices: &[i64], amounts: &[u64]) -> u
     if amounts.len() < Engine::BIDDERS {
         return Refusal::SHORT_BUFFER;
     }
-    register::refusal(book, words)
+    register_soundness::refusal(book, words)
 }
 
 // The refusals of the day and the prices, 21 and 30; 0 where there is none.
@@ -87,6 +87,6 @@ pub fn payout(
     amounts::write_amounts(paid, lent);
     Outcome {
         answer: Answer::Done,
-        book: book.with_account(after),
+        book: book_parts::with_account(book, after),
     }
 }

@@ -3,14 +3,13 @@ use mathlib.Core.Path.{_≡_, refl, sym, _∙_, ap, ap₂}
 use mathlib.Core.Bool.{true, not}
 use mathlib.Core.List.{List, [], _∷_, _++_, map, map-append}
 use Prim.Native.Nat.{ℕ, zero, suc, _*_, _-_, _≤_}
-use native.Mathlib.Omega.{arith}
 use lib.ListN.{length, take, replicate, length-map}
-use lib.Seq.{length-take-le, take-all, take-at, take-append-seam}
+use lib.Seq.{take-all, take-at, take-append-seam}
 use borrow.Author.Tests.{not-false}
 use Rattle.market.proofs.Every.{every-append, every-take, every-replicate}
 use Rattle.market.proofs.SoundLaws.{count-within}
 use Rattle.market.proofs.Tables.{none-refused, none-holds}
-use Rattle.market.specs.Answers.{_gives_, firstOf, answerNumber, answered, decided}
+use Rattle.market.specs.Answers.{_gives_, firstOf, answerNumber, answered}
 use Rattle.market.specs.Books.{every}
 use Rattle.market.specs.Fresh.{soundRoute, freshRefusals, freshBook, noBook, fresh}
 use Rattle.market.specs.Limits.{bidderLimit, pathLimit, quantityWords}
@@ -24,65 +23,18 @@ use Rattle.opening.specs.Open.{«open»}
 use Rattle.sheets.specs.Slots.{filled, noBidderLine, noPathLine, bidderRows, pathRows}
 use Rattle.sheets.specs.declared.rows.BidderLine.{BidderLine}
 use Rattle.sheets.specs.declared.rows.PathLine.{PathLine}
-use Rattle.sheets.specs.declared.rows.PathRows.{PathRows}
 use Rattle.preparing.specs.Preparing.{unlessRefused, andThen, deposits, routeOf, routesOf, quantitiesOf, emptyRegister, opened}
-use Rattle.preparing.specs.PreparedSlots.{isListed, quantitiesIn, openWith, openedSlots}
-use Rattle.preparing.proofs.DepositLaws.{then-refused, then-next}
+use Rattle.preparing.specs.PreparedSlots.{isListed, quantitiesIn, openedSlots}
 use Rattle.preparing.proofs.SlotLaws.{quantities-length, quantities-append}
 
 -- ---- A fresh book that is answered has 16 paths at most
 
-fresh-few : (routes : List Route) (n : ℕ) → answerNumber (fresh routes n .answer) ≡ 0 → n ≤ pathLimit
+pub fresh-few : (routes : List Route) (n : ℕ) → answerNumber (fresh routes n .answer) ≡ 0 → n ≤ pathLimit
 unfolding fresh
 fresh-few routes n none =
     let rest = (not (every soundRoute (take n routes)) gives 25) ∷ [] in
     let free = none-refused noBook (firstOf (freshRefusals routes n)) (answered (freshBook routes n)) none in
     count-within n (not-false (soundPathCount n) (none-holds (not (soundPathCount n)) 25 rest tt free .0))
-
--- ---- Open with the quantities counted
-
-pub counted-words : (words : List ℕ) (count : ℕ) → length words ≡ pathLimit * quantityWords → count ≤ pathLimit → count * quantityWords ≡ length (take (count * quantityWords) words)
-counted-words words count long few = sym (length-take-le (count * quantityWords) words (omega (arith, long)))
-
-module _ (b : Book) (kind : Kind) (period : Period) (paths : PathRows) (words : List ℕ) (are : words ≡ quantitiesOf (paths .lines)) where
-  pub open-is : (o : Outcome) → o ≡ «open» b emptyRegister kind period (take (paths .count * quantityWords) words) → o ≡ openWith b kind period paths
-  open-is o is = is ∙ ap (λ (l : List ℕ). «open» b emptyRegister kind period (take (paths .count * quantityWords) l)) are
-
--- ---- Call by call, as `opened` makes them
-
-module _ (kind : Kind) (period : Period) (bidders : List BidderLine) (paths : PathRows) (routes : List Route) (are : routes ≡ map routeOf (paths .lines)) (made : Outcome) (from-routes : made ≡ fresh routes (paths .count)) (n : ℕ) (is : n ≡ answerNumber (made .answer)) where
-  abbrev book-made : Outcome
-  book-made = fresh (map routeOf (paths .lines)) (paths .count)
-
-  abbrev is-made : made ≡ book-made
-  is-made = from-routes ∙ ap (λ (l : List Route). fresh l (paths .count)) are
-
-  abbrev opens : Book → Outcome
-  opens b = openWith b kind period paths
-
-  abbrev funds : Book → Outcome
-  funds b = andThen (deposits b bidders) opens
-
-  pub book-refused : (n ≡ 0 → ⊥) → made ≡ openedSlots kind period bidders paths
-  unfolding openedSlots
-  book-refused some = then-refused made book-made is-made funds n is some
-
-  module _ (none : n ≡ 0) where
-    pub few-paths : paths .count ≤ pathLimit
-    few-paths = fresh-few (map routeOf (paths .lines)) (paths .count) (sym (is ∙ ap (λ (o : Outcome). answerNumber (o .answer)) is-made) ∙ none)
-
-    module _ (funded : Outcome) (is-funded : funded ≡ deposits (made .book) bidders) (m : ℕ) (is-m : m ≡ answerNumber (funded .answer)) where
-      pub deposits-refused : (m ≡ 0 → ⊥) → funded ≡ openedSlots kind period bidders paths
-      unfolding openedSlots
-      deposits-refused some =
-          then-refused funded (deposits (made .book) bidders) is-funded opens m is-m some
-          ∙ then-next made book-made is-made funds n is none
-
-      pub deposits-made : m ≡ 0 → opens (funded .book) ≡ openedSlots kind period bidders paths
-      unfolding openedSlots
-      deposits-made zeroth =
-          then-next funded (deposits (made .book) bidders) is-funded opens m is-m zeroth
-          ∙ then-next made book-made is-made funds n is none
 
 -- ---- Images of slots
 

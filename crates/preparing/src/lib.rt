@@ -1,66 +1,70 @@
-// The calls before the first round, in the sheet's order: fresh book, deposits, open.
-mod deposits;
-mod slots;
-
+// The calls before the first round: what they are, and the deposits of a sheet's bidders, in its order.
+use funding::Funds;
+use market::answer::Answer;
 use market::answer::Outcome;
 use market::answer::Refusal;
 use market::book::Book;
-use market::book::Kind;
-use market::book::Period;
-use market::engine::Engine;
+use market::units::Cents;
 use sheets::rows::BidderLine;
 use sheets::rows::BidderRows;
-use sheets::rows::PathRows;
 ghost use mathlib.Core.Path.{_≡_};
 ghost use mathlib.Core.Bool.{true};
-ghost use mathlib.Core.List.{map};
-ghost use Prim.Native.Nat.{_≤_};
+ghost use Prim.Native.Nat.{_≤_, _<_};
 ghost use lib.ListN.{take};
 ghost use Rattle.market.specs.Books.{every};
-ghost use Rattle.market.specs.Limits.{bidderLimit, pathLimit};
-ghost use Rattle.preparing.specs.PreparedSlots.{isListed, openWith, openedSlots};
+ghost use Rattle.market.specs.Limits.{bidderLimit};
+ghost use Rattle.keeping.specs.State.{State};
+ghost use Rattle.preparing.specs.Preparing as rules;
+ghost use Rattle.preparing.specs.PreparedSlots.{isListed};
 
-// Open over an empty register, with the quantities of the paths counted.
-fn open_with(book: Book, kind: Kind, period: Period, paths: PathRows) -> Outcome
-    requires { ⌜ paths .count ≤ pathLimit ⌝ }
-    ensures { λ r. ⌜ r ≡ openWith book kind period paths ⌝ }
+// A deposit, where the amount is not 0. The book is sound from the first deposit to the last, and so it is not tested at each.
+fn deposit_if(book: Book, bidder: u32, to: Funds, amount: u64) -> Outcome
+    requires { ⌜ State book rules.emptyRegister ⌝ }
+    ensures { λ r. ⌜ r ≡ rules.depositIf amount book bidder to ⌝ }
 {
-    let words = [0u32; Engine::REGISTER_WORDS];
-    let lines = paths.lines;
-    let all = slots::quantities(lines);
-    let counted = paths.count * Engine::QUANTITY_WORDS;
-    opening::open(book, &words, kind, period, &all[..counted])
+    if amount == 0 {
+        return Outcome {
+            answer: Answer::Done,
+            book,
+        };
+    }
+    funding::deposit_sound(book, bidder, to, Cents(amount))
 }
 
-// Fresh book, deposits, open; the first refusal ends it.
-pub fn opened(kind: Kind, period: Period, bidders: BidderRows, paths: PathRows) -> Outcome
-    requires { ⌜ bidders .count ≤ bidderLimit ⌝ }
-    requires { ⌜ every isListed (bidders .lines) ≡ true ⌝ }
-    ensures { λ r. ⌜ r ≡ openedSlots kind period (take (bidders .count) (bidders .lines)) paths ⌝ }
+// The deposits of a line: cash, and then letter.
+fn line_deposits(book: Book, line: BidderLine) -> Outcome
+    requires { ⌜ line .bidder < bidderLimit ⌝ }
+    requires { ⌜ State book rules.emptyRegister ⌝ }
+    ensures { λ r. ⌜ r ≡ rules.lineDeposits book line ⌝ }
 {
-    let lines = paths.lines;
-    let made = Engine::fresh(slots::routes(lines), paths.count);
-    let first = made.answer;
+    let bidder = line.bidder as u32;
+    let cash = deposit_if(book, bidder, Funds::Cash, line.cash);
+    let first = cash.answer;
     if first.number() != Refusal::NONE {
-        return made;
+        return cash;
     }
-    let funded = deposits::deposits(made.book, bidders);
-    let second = funded.answer;
-    if second.number() != Refusal::NONE {
-        return funded;
-    }
-    open_with(funded.book, kind, period, paths)
+    deposit_if(cash.book, bidder, Funds::Letter, line.letter)
 }
 
-// The bidders' numbers.
-pub fn numbers(lines: [BidderLine; Engine::BIDDERS]) -> [u32; Engine::BIDDERS]
-    requires { ⌜ every isListed lines ≡ true ⌝ }
-    ensures { λ r. ⌜ r ≡ map (λ x. x .bidder) lines ⌝ }
+// The deposits of the bidders listed; the first refusal ends them.
+pub fn deposits(book: Book, rows: BidderRows) -> Outcome
+    requires { ⌜ rows .count ≤ bidderLimit ⌝ }
+    requires { ⌜ every isListed (rows .lines) ≡ true ⌝ }
+    requires { ⌜ State book rules.emptyRegister ⌝ }
+    ensures { λ r. ⌜ r ≡ rules.deposits book (take (rows .count) (rows .lines)) ⌝ }
 {
-    let mut numbers = [0u32; Engine::BIDDERS];
-    for i in 0..Engine::BIDDERS {
-        let number = lines[i].bidder as u32;
-        numbers[i] = number;
+    let lines = rows.lines;
+    let mut now = book;
+    for i in 0..rows.count {
+        let outcome = line_deposits(now, lines[i]);
+        let answer = outcome.answer;
+        if answer.number() != Refusal::NONE {
+            return outcome;
+        }
+        now = outcome.book;
     }
-    numbers
+    Outcome {
+        answer: Answer::Done,
+        book: now,
+    }
 }

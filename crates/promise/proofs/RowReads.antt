@@ -5,12 +5,13 @@ use mathlib.Core.List.{List, [], _∷_, _++_, append-assoc}
 use Prim.Native.Nat.{ℕ, zero, suc, _+_, _*_, _<_}
 use native.Mathlib.Omega.{arith}
 use lib.Dec.{eqb}
-use lib.ListN.{length, getD, drop, length-append, List·getD-append}
+use lib.ListN.{length, getD, drop, List·getD-append}
 use lib.Seq.{getD-append-add}
 use borrow.Author.Tests.{eqb-true, eqb-false}
 use Rattle.market.specs.Limits.{bidAnswerSize, pathAnswerSize}
 use Rattle.bids.specs.Bids.{Bid, bidValue}
 use Rattle.clearing.specs.Clearing.{chargeAt, bidRow, bidRowsFrom, bidRows, laid}
+use Rattle.closing.proofs.ClosingLaws.{rows-length}
 use Rattle.closing.specs.Closing.{pathRow, pathRows}
 use Rattle.round.specs.Answers.{markIn, valueIn, wonIn, chargeIn, offeredIn, soldIn, priceIn}
 
@@ -49,11 +50,6 @@ module _ (marks won prices : List ℕ) (bids : List Bid) (before : List ℕ) (k 
   charge-read = word-at 3 (omega arith)
 
 -- ---- Paths
-
-rows-length : (offered sold prices : List ℕ) (n : ℕ) → length (pathRows offered sold prices n) ≡ n * pathAnswerSize
-rows-length offered sold prices zero = refl
-rows-length offered sold prices (suc n) =
-    omega (arith, rows-length offered sold prices n, length-append (pathRows offered sold prices n) (pathRow offered sold prices n))
 
 path-at : (offered sold prices : List ℕ) (n : ℕ) (rest : List ℕ) (path j : ℕ) → path < n → j < pathAnswerSize → getD (pathRows offered sold prices n ++ rest) (path * pathAnswerSize + j) 0 ≡ getD (pathRow offered sold prices path) j 0
 path-at offered sold prices zero rest path j below inside = absurd (let none : ⊥ = omega arith in none)

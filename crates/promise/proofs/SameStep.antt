@@ -30,8 +30,10 @@ use Rattle.billing.specs.Pay.{payRefusals, bookPaid, pay, payWords}
 use Rattle.defaulting.specs.Default.{defaultRefusals, drawOf, bookForfeited, default, defaultWords}
 use Rattle.retire.specs.Retire.{retireRefusals, retire, retireWords}
 use Rattle.payout.specs.Payout as payouts
+use Rattle.pools.specs.Pools.{sharesOf}
 use Rattle.disbursement.specs.Disbursement as pools
 use Rattle.disbursement.specs.declared.flow.Flow.the-variants.{Out, In}
+use Rattle.opened_paths.specs.OpenedPaths.{wordsNeeded}
 use Rattle.opening.specs.Open as openings
 use Rattle.bids.specs.Bids.{bidsOf}
 use Rattle.bids.specs.Faults.{listRefusals}
@@ -119,14 +121,14 @@ module _ (b : Book) (words : List ℕ) (long : registerWords ≤ length words) w
     disburse-same total =
         amounts-step (asked (Disburse total)) b words (firstOf (pools.refusals Out b total (columnsOf l)))
         (answered (withAccount b (pools.accountAfter Out b total)))
-        (pools.sharesOf (total .0) (pools.columnsOf (columnsOf l))) refl
+        (sharesOf (total .0) (pools.columnsOf (columnsOf l))) refl
 
     recover-same : (total : Cents) → Same (Recover total)
     unfolding pools.outcome pools.sharesAfter
     recover-same total =
         amounts-step (asked (Recover total)) b words (firstOf (pools.refusals In b total (columnsOf l)))
         (answered (withAccount b (pools.accountAfter In b total)))
-        (pools.sharesOf (total .0) (pools.columnsOf (columnsOf l))) refl
+        (sharesOf (total .0) (pools.columnsOf (columnsOf l))) refl
 
     pay-same : (bidder : ℕ) (amount : Cents) → Same (Pay bidder amount)
     unfolding pay payWords
@@ -166,7 +168,7 @@ module _ (b : Book) (words : List ℕ) (long : registerWords ≤ length words) w
     open-same kind period =
         let es = countedEntries b words in
         let own = openings.openRefusals b period (l .quantities) in
-        let short = not (leb (openings.wordsNeeded b) (length (l .quantities))) in
+        let short = not (leb (wordsNeeded b) (length (l .quantities))) in
         by-number (asked (Open kind period)) (rules.effect b es (Open kind period) l) (firstOf (openings.openTable b words period (l .quantities))) (firstOf (rules.refusals b es (Open kind period) l))
         (engineMade (asked (Open kind period)) (engine.step b words (Open kind period) l))
         (ap (cond short 1) (rows-same own))

@@ -23,8 +23,10 @@ use Rattle.billing.specs.Pay.{payRefusals, bookPaid}
 use Rattle.defaulting.specs.Default.{defaultRefusals, drawOf, bookForfeited}
 use Rattle.retire.specs.Retire.{retireRefusals}
 use Rattle.payout.specs.Payout as payouts
+use Rattle.pools.specs.Pools.{sharesOf}
 use Rattle.disbursement.specs.Disbursement as pools
 use Rattle.disbursement.specs.declared.flow.Flow.the-variants.{Out, In}
+use Rattle.opened_paths.specs.OpenedPaths.{openedPaths}
 use Rattle.opening.specs.Open as openings
 use Rattle.bids.specs.Bids.{Bid, bidsOf}
 use Rattle.bids.specs.Faults.{listRefusals}
@@ -114,7 +116,7 @@ effect b es (Open kind period) l =
     leaves l
     (answered
     (withAuction b
-    (openings.openedPaths kind period es (l .quantities) (b .paths) (b .«path_count»))
+    (openedPaths kind period es (l .quantities) (b .paths) (b .«path_count»))
     (stages.Open kind 1 period)))
     es
 effect b es Round l = clears b es l (bidsOf (l .bids))
@@ -135,12 +137,12 @@ effect b es (Disburse total) l =
     shares l
     (answered (withAccount b (pools.accountAfter Out b total)))
     es
-    (pools.sharesOf (total .0) (pools.columnsOf (columnsOf l)))
+    (sharesOf (total .0) (pools.columnsOf (columnsOf l)))
 effect b es (Recover total) l =
     shares l
     (answered (withAccount b (pools.accountAfter In b total)))
     es
-    (pools.sharesOf (total .0) (pools.columnsOf (columnsOf l)))
+    (sharesOf (total .0) (pools.columnsOf (columnsOf l)))
 
 -- ---- A call, refused or answered
 

@@ -158,7 +158,7 @@ fn bidder_slots(bytes: &[u8], at: usize, count: usize) -> [BidderLine; Engine::B
     for i in 0..count {
         let line = bidder_at(bytes, place);
         slots[i] = line;
-        let step = lines::line_at(Part::Bidders, state, bytes, place);
+        let step = section_lines::line_at(Part::Bidders, state, bytes, place);
         place += step.used;
         state = step.next;
     }
@@ -205,7 +205,7 @@ fn path_slots(bytes: &[u8], at: usize, count: usize) -> [PathLine; Engine::PATHS
     for i in 0..count {
         let line = path_at(bytes, place);
         slots[i] = line;
-        let step = lines::line_at(Part::Paths, state, bytes, place);
+        let step = section_lines::line_at(Part::Paths, state, bytes, place);
         place += step.used;
         state = step.next;
     }

@@ -40,5 +40,5 @@ pub fn with_rent(book: Book, amount: Cents) -> Book
 {
     let account = book.account;
     let after = balance::plus(account, amount);
-    book.with_account(after)
+    book_parts::with_account(book, after)
 }

@@ -28,10 +28,10 @@ pub fn signed(account: Balance) {
         return;
     }
     text(b" ");
-    if balance::below_zero(account) {
+    if balance_signs::below_zero(account) {
         text(b"-");
     }
-    let size = balance::magnitude(account);
+    let size = balance_signs::magnitude(account);
     io::print_decimal(STDOUT_FILENO, size.0);
 }
 

@@ -14,7 +14,7 @@ ghost use Rattle.retire.specs.Retire as rules;
 fn refusal(book: Book, words: &[u32], day: Day) -> u32
     ensures { λ r. ⌜ r ≡ firstOf (rules.retireTable book (now (words .entry)) day) ⌝ }
 {
-    let number = register::refusal(book, words);
+    let number = register_soundness::refusal(book, words);
     if number != Refusal::NONE {
         return number;
     }
@@ -40,6 +40,6 @@ pub fn retire(book: Book, words: &mut [u32], day: Day) -> Outcome
     let left = entry_changes::remove(words, count, Removal::EndedBefore(day));
     Outcome {
         answer: Answer::Done,
-        book: book.with_entries(left),
+        book: book_parts::with_entries(book, left),
     }
 }

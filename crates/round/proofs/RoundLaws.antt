@@ -16,7 +16,7 @@ use Rattle.market.specs.declared.book.Bidder.{Bidder}
 use Rattle.market.specs.declared.book.Book.{Book}
 use Rattle.market.specs.declared.book.Stage.{Stage}
 use Rattle.market.specs.declared.book.Path.{Path}
-use Rattle.closing.specs.Closing.{soldWithin}
+use Rattle.selling.specs.Selling.{soldWithin}
 use Rattle.market.specs.Limits.{quantityLimit, headerWords, pairWords, bidLimit}
 use Rattle.market.specs.declared.book.Period.{Period}
 use Rattle.bids.specs.Bids.{Bid, bidValue}

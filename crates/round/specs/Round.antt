@@ -1,9 +1,9 @@
 -- Document 01, "Round.": the whole of it, from the book, the register and the words of the bid list.
 use mathlib.Core.Path.{_≡_}
-use mathlib.Core.Bool.{cond, not}
+use mathlib.Core.Bool.{not}
 use mathlib.Core.List.{List, [], _∷_, _++_}
 use Prim.Native.Nat.{ℕ, zero, suc, _+_}
-use lib.Dec.{leb, eqb}
+use lib.Dec.{leb}
 use lib.ListN.{length}
 use Rattle.market.specs.Answers.{Row, _gives_, firstOf, decided, decidedList}
 use Rattle.market.specs.Limits.{entryLimit, bidListWords, bidAnswerWords, pathAnswerWords, scratchWords}
@@ -12,11 +12,6 @@ use Rattle.market.specs.declared.answer.Answer.the-variants.{Bids}
 use Rattle.market.specs.declared.answer.Outcome.{Outcome}
 use Rattle.market.specs.declared.book.Book.{Book}
 use Rattle.market.specs.declared.book.Entry.{Entry}
-use Rattle.market.specs.declared.book.Kind.{Kind}
-use Rattle.market.specs.declared.book.Kind.the-variants.{Short, Long}
-use Rattle.market.specs.declared.book.Period.{Period}
-use Rattle.market.specs.declared.book.Stage.{Stage}
-use Rattle.market.specs.declared.book.Stage.the-variants.{Idle, Open}
 use Rattle.register.specs.Refusals.{registerRefusals, countedEntries}
 use Rattle.register.specs.Words.{written}
 use Rattle.bids.specs.Bids.{Bid, bidsOf}
@@ -25,7 +20,9 @@ use Rattle.admission.specs.Admission.{biddingLimits, marksOf}
 use Rattle.awards.specs.Awards.{Award, awardsOf}
 use Rattle.awarding.specs.Tables.{wonTable, soldTable, priceTable}
 use Rattle.clearing.specs.Clearing.{chargesOf, bidRows, laid, newEntries}
-use Rattle.closing.specs.Closing.{sweptAll, offeredBy, soldTo, pathRows}
+use Rattle.closing.specs.Closing.{sweptAll, pathRows}
+use Rattle.round_stage.specs.Stages.{stageAfter}
+use Rattle.selling.specs.Selling.{offeredBy, soldTo}
 
 -- ---- What a round works out, from the book and its bids
 
@@ -86,15 +83,6 @@ roundTable b words bidWords bidAnswers pathAnswers scratch =
     earlyRefusals b words bidWords bidAnswers pathAnswers scratch ++ roomRefusals b (bidsOf bidWords)
 
 -- ---- The round
-
--- "After the last round the stage is idle": S has one, L two
-abbrev pub afterRound : Kind → ℕ → Period → Stage
-afterRound Short round period = Idle
-afterRound Long round period = cond (eqb round 1) (Open Long 2 period) Idle
-
-abbrev pub stageAfter : Stage → Stage
-stageAfter Idle = Idle
-stageAfter (Open kind round period) = afterRound kind round period
 
 -- "for each of the 32 bidders: its charges are added to owed ..": the book after a round with these MW won, MW sold and clearing
 -- prices, and so many entries

@@ -24,7 +24,7 @@ fn lent_refusal(book: Book, words: &[u32], answers: &[u64], results: &[u64], scr
     if scratch.len() < Engine::SCRATCH_WORDS {
         return Refusal::SHORT_BUFFER;
     }
-    register::refusal(book, words)
+    register_soundness::refusal(book, words)
 }
 
 // The refusals of the stage and of the bid list, 20, 22, and the first faulty bid's; 0 where there is none.
@@ -33,7 +33,7 @@ fn list_refusal(book: Book, bids: &[u32]) -> u32
     ensures { λ r. ⌜ r ≡ firstOf (deskRefusals book (now (bids .entry)) ++ listRefusals (book .«path_count») (now (bids .entry))) ⌝ }
 {
     let stage = book.stage;
-    if soundness::is_idle(stage) {
+    if conditions::is_idle(stage) {
         return Refusal::STAGE;
     }
     if bids.len() > Engine::BID_LIST_WORDS {

@@ -3,7 +3,6 @@ use crate::stage;
 use crate::worked::Worked;
 use awarding::Awarded;
 use market::book::Book;
-use market::engine::Engine;
 ghost use mathlib.Core.Path.{_≡_};
 ghost use mathlib.Core.Bool.{true};
 ghost use mathlib.Core.List.{_++_};
@@ -38,9 +37,9 @@ pub fn book_with(book: Book, bids: &[u32], awarded: Awarded, entries: usize) -> 
     let account = book.account;
     let stage = book.stage;
     let charges = clearing::charges_of(bids, &won, prices);
-    let swept = closing::sweep_all(bidders, charges);
-    let slots = closing::sold_of(paths, sold, book.path_count);
-    let next = stage::stage_after(stage);
+    let swept = sweeping::sweep_all(bidders, charges);
+    let slots = selling::sold_of(paths, sold, book.path_count);
+    let next = round_stage::stage_after(stage);
     Book {
         paths: slots,
         path_count: book.path_count,
@@ -94,5 +93,5 @@ pub fn add_winners(book: Book, bids: &[u32], awarded: Awarded, words: &mut [u32]
     let won = awarded.won;
     let stage = book.stage;
     let period = stage::period_of(stage);
-    clearing::add_entries(bids, &won, period, words, book.entries)
+    winning_entries::add_entries(bids, &won, period, words, book.entries)
 }

@@ -4,7 +4,6 @@ mod effect;
 mod stage;
 mod worked;
 
-use awarding::Awarded;
 use market::answer::Answer;
 use market::answer::Outcome;
 use market::answer::Refusal;

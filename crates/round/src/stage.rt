@@ -1,12 +1,10 @@
-// What the stage says of a round, and the stage after it.
+// What the stage says of a round.
 use market::book::Kind;
 use market::book::Period;
 use market::book::Stage;
-use market::engine::Engine;
 use market::units::Day;
 ghost use mathlib.Core.Path.{_≡_};
 ghost use Rattle.market.specs.Sound.{kindOf, roundOf, periodOf};
-ghost use Rattle.round.specs.Round.{afterRound, stageAfter};
 
 // The open auction's kind.
 pub fn kind_of(stage: Stage) -> Kind
@@ -50,38 +48,5 @@ pub fn period_of(stage: Stage) -> Period
             round: _round,
             period,
         } => period,
-    }
-}
-
-// After the first round of a long auction comes its second, and after every other round the stage is idle.
-fn after(kind: Kind, round: u32, period: Period) -> Stage
-    ensures { λ r. ⌜ r ≡ afterRound kind round period ⌝ }
-{
-    match kind {
-        Kind::Short => Engine::idle(),
-        Kind::Long => {
-            if round == 1 {
-                return Stage::Open {
-                    kind,
-                    round: 2,
-                    period,
-                };
-            }
-            Engine::idle()
-        }
-    }
-}
-
-// The stage after a round.
-pub fn stage_after(stage: Stage) -> Stage
-    ensures { λ r. ⌜ r ≡ stageAfter stage ⌝ }
-{
-    match stage {
-        Stage::Idle => Engine::idle(),
-        Stage::Open {
-            kind,
-            round,
-            period,
-        } => after(kind, round, period),
     }
 }

@@ -4,7 +4,7 @@ use market::book::Book;
 use market::engine::Engine;
 ghost use mathlib.Core.Path.{_≡_};
 ghost use mathlib.Core.Bool.{true};
-ghost use Prim.Native.Nat.{_+_, _-_, _≤_};
+ghost use Prim.Native.Nat.{_+_, _≤_};
 ghost use lib.Dec.{leb};
 ghost use lib.ListN.{length};
 ghost use Rattle.market.specs.Books.{every};
@@ -38,7 +38,7 @@ pub fn work_out(book: Book, bids: &[u32]) -> Worked
     let paths = book.paths;
     let kind = stage::kind_of(stage);
     let number = stage::round_of(stage);
-    let offered = closing::offered_by(kind, number, paths, book.path_count);
+    let offered = selling::offered_by(kind, number, paths, book.path_count);
     let marks = marked.marks;
     Worked {
         marks,
@@ -47,8 +47,7 @@ pub fn work_out(book: Book, bids: &[u32]) -> Worked
     }
 }
 
-// Whether the register has room for the winners. Where it has room for all bids it has; else they are counted, before anything
-// that is lent is touched.
+// Whether the register has room for the winners; nothing that is lent is touched.
 pub fn has_room(book: Book, bids: &[u32], worked: Worked) -> bool
     requires { ⌜ book .entries ≤ entryLimit ⌝ }
     requires { ⌜ length (now bids) ≤ bidListWords ⌝ }
@@ -59,12 +58,7 @@ pub fn has_room(book: Book, bids: &[u32], worked: Worked) -> bool
     requires { ⌜ every soundQuantity (offeredNow book) ≡ true ⌝ }
     ensures { λ r. ⌜ r ≡ leb (book .entries + length (entriesNow book (bidsOf (now (bids .entry))))) entryLimit ⌝ }
 {
-    let room = Engine::ENTRIES - book.entries;
-    if worked.bids <= room {
-        return true;
-    }
     let marks = worked.marks;
     let offered = worked.offered;
-    let winners = winners::winners_of(bids, &marks, worked.bids, offered);
-    winners <= room
+    winners::has_room(book.entries, bids, &marks, worked.bids, offered)
 }

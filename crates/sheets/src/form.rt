@@ -37,7 +37,7 @@ fn lines_from(part: Part, bytes: &[u8], at: usize, count: u64) -> Read
     let mut state: u64 = 0;
     let mut left = count;
     while left > 0 {
-        let step = lines::line_at(part, state, bytes, at + used);
+        let step = section_lines::line_at(part, state, bytes, at + used);
         if step.used == 0 {
             return Read { lines, used };
         }

@@ -3,7 +3,6 @@ use market::book::Bidder;
 use market::book::Book;
 use market::book::Kind;
 use market::book::Path;
-use market::book::Period;
 use market::book::Stage;
 use market::engine::Engine;
 ghost use mathlib.Core.Path.{_≡_};
@@ -13,7 +12,7 @@ ghost use lib.Dec.{leb, eqb};
 ghost use lib.ListN.{take};
 ghost use Rattle.market.specs.Books.{every, _implies_, noValue};
 ghost use Rattle.market.specs.Limits.{pathLimit, roundTwoOwedLimit};
-ghost use Rattle.market.specs.Sound.{soundRound, soundPeriod, soundStage, isIdle, roundOf, soundPath, soundBidder, soundBook};
+ghost use Rattle.market.specs.Sound.{soundRound, soundStage, roundOf, soundPath, soundBidder, soundBook};
 
 // Whether a sum is within a limit; the sum itself may be too large for a word.
 fn sum_within(a: u64, b: u64, limit: u64) -> bool
@@ -25,15 +24,6 @@ fn sum_within(a: u64, b: u64, limit: u64) -> bool
     b <= limit - a
 }
 
-// Whether a bidder's value is 0.
-pub fn no_value(bidder: Bidder) -> bool
-    ensures { λ r. ⌜ r ≡ noValue bidder ⌝ }
-{
-    let applied = bidder.applied;
-    let owed = bidder.owed;
-    (applied.0 == 0) & (owed.0 == 0)
-}
-
 fn sound_round(kind: Kind, round: u32) -> bool
     ensures { λ r. ⌜ r ≡ soundRound kind round ⌝ }
 {
@@ -41,15 +31,6 @@ fn sound_round(kind: Kind, round: u32) -> bool
         Kind::Short => round == 1,
         Kind::Long => (round == 1) | (round == 2),
     }
-}
-
-// Whether open takes a period.
-pub fn sound_period(period: Period) -> bool
-    ensures { λ r. ⌜ r ≡ soundPeriod period ⌝ }
-{
-    let first = period.first;
-    let last = period.last;
-    (first.0 <= last.0) & (last.0 <= Engine::DAY_LIMIT)
 }
 
 fn sound_stage(stage: Stage) -> bool
@@ -61,15 +42,8 @@ fn sound_stage(stage: Stage) -> bool
             kind,
             round,
             period,
-        } => sound_round(kind, round) & sound_period(period),
+        } => sound_round(kind, round) & conditions::sound_period(period),
     }
-}
-
-// Whether the stage is idle.
-pub fn is_idle(stage: Stage) -> bool
-    ensures { λ r. ⌜ r ≡ isIdle stage ⌝ }
-{
-    if let Stage::Idle = stage { true } else { false }
 }
 
 // The open auction's next round, and 0 where the stage is idle.
@@ -116,7 +90,7 @@ fn fits_round(round: u32, bidder: Bidder) -> bool
 {
     let owed = bidder.owed;
     if round == 1 {
-        return no_value(bidder);
+        return conditions::no_value(bidder);
     }
     if round == 2 {
         return owed.0 <= Engine::ROUND_TWO_OWED_LIMIT;

@@ -3,7 +3,7 @@ use mathlib.Core.Path.{refl}
 use Rattle.market.specs.Fresh.{freshBook}
 use Rattle.market.specs.Sound.{soundBook}
 use Rattle.sharing.specs.Sharing.{poolShares}
-use Rattle.disbursement.specs.Disbursement.{sharesOf}
+use Rattle.pools.specs.Pools.{sharesOf}
 use Rattle.payout.specs.Payout.{amountsOf}
 use Rattle.awards.specs.Awards.{awardsOf}
 use Rattle.round.specs.Round.{awardsNow}

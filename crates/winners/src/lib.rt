@@ -1,12 +1,12 @@
-// How many bids of a round win.
+// How many bids of a round win, and whether the register has room for them.
 use market::engine::Engine;
 ghost use mathlib.Core.Path.{_≡_};
 ghost use mathlib.Core.Bool.{true, cond};
-ghost use Prim.Native.Nat.{_≤_};
-ghost use lib.Dec.{ltb};
+ghost use Prim.Native.Nat.{_+_, _≤_};
+ghost use lib.Dec.{leb, ltb};
 ghost use lib.ListN.{length};
 ghost use Rattle.market.specs.Books.{every};
-ghost use Rattle.market.specs.Limits.{pathLimit, bidLimit, bidListWords};
+ghost use Rattle.market.specs.Limits.{pathLimit, bidLimit, bidListWords, entryLimit};
 ghost use Rattle.market.specs.Sound.{soundQuantity};
 ghost use Rattle.awards.specs.Awards.{awardsOf};
 ghost use Rattle.bids.proofs.Walk.{soundList};
@@ -14,7 +14,7 @@ ghost use Rattle.bids.specs.Bids.{bidsOf};
 ghost use Rattle.awarding.specs.Tables.{wonTable, winnersIn};
 
 // How many of the first bids won any MW.
-pub fn winners(won: [u32; Engine::BIDS], count: usize) -> usize
+fn winners(won: [u32; Engine::BIDS], count: usize) -> usize
     requires { ⌜ count ≤ bidLimit ⌝ }
     ensures { λ r. ⌜ r ≡ winnersIn won count ⌝ }
 {
@@ -36,12 +36,7 @@ fn counted(won: u32) -> usize
 
 // How many bids would win, worked out without the lent scratch: a round asks this where its winners may not fit the register, before
 // it touches anything that is lent.
-pub fn winners_of(
-    words: &[u32],
-    marks: &[u32],
-    count: usize,
-    offered: [u32; Engine::PATHS],
-) -> usize
+fn winners_of(words: &[u32], marks: &[u32], count: usize, offered: [u32; Engine::PATHS]) -> usize
     requires { ⌜ length (now words) ≤ bidListWords ⌝ }
     requires { ⌜ soundList pathLimit (now words) ≡ true ⌝ }
     requires { ⌜ count ≡ length (bidsOf (now words)) ⌝ }
@@ -54,4 +49,30 @@ pub fn winners_of(
     let awarded = awarding::award_bids(words, marks, count, offered, &mut own);
     let won = awarded.won;
     winners(won, count)
+}
+
+// Whether a register with so many entries has room for the winners. Where it has room for all bids it has; else they are counted,
+// before anything that is lent is touched.
+pub fn has_room(
+    entries: usize,
+    words: &[u32],
+    marks: &[u32],
+    count: usize,
+    offered: [u32; Engine::PATHS],
+) -> bool
+    requires { ⌜ entries ≤ entryLimit ⌝ }
+    requires { ⌜ length (now words) ≤ bidListWords ⌝ }
+    requires { ⌜ soundList pathLimit (now words) ≡ true ⌝ }
+    requires { ⌜ count ≡ length (bidsOf (now words)) ⌝ }
+    requires { ⌜ count ≤ bidLimit ⌝ }
+    requires { ⌜ bidLimit ≤ length (now marks) ⌝ }
+    requires { ⌜ every soundQuantity offered ≡ true ⌝ }
+    ensures { λ r. ⌜ r ≡ leb (entries + winnersIn (wonTable (awardsOf offered (bidsOf (now (words .entry))) (now (marks .entry)))) (length (bidsOf (now (words .entry))))) entryLimit ⌝ }
+{
+    let room = Engine::ENTRIES - entries;
+    if count <= room {
+        return true;
+    }
+    let winners = winners_of(words, marks, count, offered);
+    winners <= room
 }

@@ -1,6 +1,6 @@
 use Prim.Native.Nat.{_≤_, _<_}
 use lib.ListN.{length}
-use Rattle.opening.specs.Open.{wordsNeeded}
+use Rattle.opened_paths.specs.OpenedPaths.{wordsNeeded}
 use borrow.Author.Tests.{le-leb, lt-leb}
 use native.Mathlib.Omega.{arith}
 use borrow.Author.Needs.{needs}

@@ -1,7 +1,8 @@
 use mathlib.Core.Path.{refl, sym, _∙_}
 use Rattle.market.proofs.Tables.{first-stands, second-decides}
 use Rattle.disbursement.proofs.Cleared.{total-cleared}
-use Rattle.disbursement.specs.Disbursement.{totalRefusals, columnRefusals}
+use Rattle.pools.specs.Pools.{columnRefusals}
+use Rattle.disbursement.specs.Disbursement.{totalRefusals}
 use borrow.Author.Needs.{needs}
 use Rattle.disbursement.proofs.parts.refusal.Statement.{statement}
 use Rattle.disbursement.proofs.parts.refusal.Tie as tie

@@ -1,0 +1,65 @@
+// A book's bidder, and a book of which one part is another.
+use market::book::Bidder;
+use market::book::Book;
+use market::book::Path;
+use market::book::Stage;
+use market::engine::Engine;
+use market::units::Balance;
+ghost use mathlib.Core.Path.{_≡_};
+ghost use Prim.Native.Nat.{_<_};
+ghost use Rattle.market.specs.Books.{bidderOf, withBidder, withAccount, withEntries, withAuction};
+ghost use Rattle.market.specs.Limits.{bidderLimit};
+
+// The bidder of a number.
+pub fn bidder(book: Book, number: u32) -> Bidder
+    requires { ⌜ number < bidderLimit ⌝ }
+    ensures { λ r. ⌜ r ≡ bidderOf book number ⌝ }
+{
+    let at = number as usize;
+    book.bidders[at]
+}
+
+// The book with another bidder at a number.
+pub fn with_bidder(book: Book, number: u32, bidder: Bidder) -> Book
+    requires { ⌜ number < bidderLimit ⌝ }
+    ensures { λ r. ⌜ r ≡ withBidder book number bidder ⌝ }
+{
+    let at = number as usize;
+    let mut next = book;
+    next.bidders[at] = bidder;
+    next
+}
+
+// The book with another account.
+pub fn with_account(book: Book, account: Balance) -> Book
+    ensures { λ r. ⌜ r ≡ withAccount book (account .0) ⌝ }
+{
+    let mut next = book;
+    next.account = account;
+    next
+}
+
+// The book with another count of the register's entries.
+pub fn with_entries(book: Book, entries: usize) -> Book
+    ensures { λ r. ⌜ r ≡ withEntries book entries ⌝ }
+{
+    let mut next = book;
+    next.entries = entries;
+    next
+}
+
+// The book with other paths and another stage.
+pub fn with_auction(book: Book, paths: [Path; Engine::PATHS], stage: Stage) -> Book
+    ensures { λ r. ⌜ r ≡ withAuction book paths stage ⌝ }
+{
+    let bidders = book.bidders;
+    let account = book.account;
+    Book {
+        paths,
+        path_count: book.path_count,
+        bidders,
+        account,
+        entries: book.entries,
+        stage,
+    }
+}

@@ -1,0 +1,2 @@
+-- Laws about the paths that open makes.
+pub mod PathLaws

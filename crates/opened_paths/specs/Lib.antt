@@ -1,0 +1,2 @@
+-- The rule of the paths that open makes.
+pub mod OpenedPaths

@@ -1,0 +1,94 @@
+use borrow.Author.Needs.{needs}
+use Prim.Native.Nat.{_+_, _-_, _≤_}
+use mathlib.Core.Path.{_≡_}
+use lib.ListN.{length}
+use native.Mathlib.Omega.{arith}
+use Rattle.market.specs.Limits.{bidderLimit, poolLimit}
+use Rattle.sharing.proofs.HandOut.{one-more-total}
+use Rattle.sharing.proofs.Totals.{total-at}
+use Rattle.sharing.proofs.Loops.{Handed, handed-start, handed-next, handed-all}
+use Rattle.sharing.specs.Sharing.{total}
+use Rattle.pool_shares.proofs.hand_out.Statement.{statement}
+use Rattle.pool_shares.proofs.hand_out.Tie as tie
+
+abbrev Inv-loop : tie.InvT-loop
+Inv-loop cents rems₀ shares₀ given₀ rems shares given = (given ≤ cents) × (length shares ≡ bidderLimit) × (total shares + (cents - given) ≤ poolLimit) × Handed cents rems₀ shares₀ given rems shares
+
+abbrev μ-loop : tie.MeasureT-loop
+μ-loop cents rems₀ shares₀ given₀ rems shares given = cents - given
+
+loop-holds : tie.Need-loop-holds Inv-loop μ-loop
+loop-holds c = (search needs, search needs, search needs, handed-start (c .args .cents) (c .args .remainders) (c .args .floors))
+
+largest-of-requires : tie.Need-largest-of-requires Inv-loop μ-loop
+largest-of-requires c κs = search needs
+
+mul-shares : tie.Need-mul-shares Inv-loop μ-loop
+mul-shares c = search needs
+
+array-read-shares : tie.Need-array-read-shares Inv-loop μ-loop
+array-read-shares c = search needs
+
+add-shares : tie.Need-add-shares Inv-loop μ-loop
+add-shares c =
+    let at = c .before .before .loop in
+    let least = total-at (at .shares) (c .largest-of .result) in
+    omega arith
+
+mul-shares-2 : tie.Need-mul-shares-2 Inv-loop μ-loop
+mul-shares-2 c = search needs
+
+array-write-shares : tie.Need-array-write-shares Inv-loop μ-loop
+array-write-shares c = search needs
+
+mul-rems : tie.Need-mul-rems Inv-loop μ-loop
+mul-rems c = search needs
+
+array-write-rems : tie.Need-array-write-rems Inv-loop μ-loop
+array-write-rems c = search needs
+
+add-given : tie.Need-add-given Inv-loop μ-loop
+add-given c = search needs
+
+loop-less : tie.Need-loop-less Inv-loop μ-loop
+loop-less c = search needs
+
+loop-again : tie.Need-loop-again Inv-loop μ-loop
+loop-again c =
+    let a = c .before .before .before .args in
+    let at = c .before .before .loop in
+    let place = c .largest-of .result in
+    let more = one-more-total (at .shares) place (omega arith) in (
+      search needs,
+      search needs,
+      omega arith,
+      handed-next (a .cents) (a .remainders) (a .floors) (at .given) (at .rems) (at .shares) (at .inv .3) place
+          (c .largest-of .ensures .0)
+          (search needs),
+    )
+
+returns : tie.Need-returns Inv-loop μ-loop
+returns c =
+    let a = c .before .before .args in
+    let at = c .before .loop in
+    handed-all (a .cents) (a .remainders) (a .floors) (at .given) (at .rems) (at .shares) (at .inv .3) (search needs)
+
+pub hand-out-spec : {M : Type 1} → statement M
+hand-out-spec =
+    tie.close
+    (tie.spec
+    Inv-loop
+    μ-loop
+    loop-holds
+    largest-of-requires
+    mul-shares
+    array-read-shares
+    add-shares
+    mul-shares-2
+    array-write-shares
+    mul-rems
+    array-write-rems
+    add-given
+    loop-less
+    loop-again
+    returns)

@@ -1,0 +1,116 @@
+// How a pool is shared by a column of weights: whole cents dropped down, then one cent each by largest remainder.
+use market::engine::Engine;
+ghost use mathlib.Core.Path.{_≡_};
+ghost use mathlib.Core.List.{map};
+ghost use Prim.Native.Nat.{_+_, _≤_, _<_};
+ghost use Rattle.market.specs.Limits.{bidderLimit, poolLimit, columnLimit};
+ghost use Rattle.sharing.specs.Sharing.{total, floorOf, remainderOf, largest, handOut, poolShares};
+
+fn floor_of(pool: u64, whole: u64, weight: u32) -> u64
+    requires { ⌜ pool ≤ poolLimit ⌝ }
+    requires { ⌜ weight ≤ columnLimit ⌝ }
+    requires { ⌜ 0 < whole ⌝ }
+    ensures { λ r. ⌜ r ≡ floorOf pool whole weight ⌝ }
+{
+    pool * (weight as u64) / whole
+}
+
+fn remainder_of(pool: u64, whole: u64, weight: u32) -> u64
+    requires { ⌜ pool ≤ poolLimit ⌝ }
+    requires { ⌜ weight ≤ columnLimit ⌝ }
+    requires { ⌜ 0 < whole ⌝ }
+    ensures { λ r. ⌜ r ≡ remainderOf pool whole weight ⌝ }
+{
+    pool * (weight as u64) % whole
+}
+
+// The whole cents of each weight.
+fn floors_of(pool: u64, whole: u64, weights: [u32; Engine::BIDDERS]) -> [u64; Engine::BIDDERS]
+    requires { ⌜ pool ≤ poolLimit ⌝ }
+    requires { ⌜ total weights ≤ columnLimit ⌝ }
+    requires { ⌜ 0 < whole ⌝ }
+    ensures { λ r. ⌜ r ≡ map (floorOf pool whole) weights ⌝ }
+{
+    let mut floors: [u64; Engine::BIDDERS] = [0; Engine::BIDDERS];
+    for i in 0..Engine::BIDDERS {
+        let floor = floor_of(pool, whole, weights[i]);
+        floors[i] = floor;
+    }
+    floors
+}
+
+// What is dropped of each weight's share.
+fn remainders_of(pool: u64, whole: u64, weights: [u32; Engine::BIDDERS]) -> [u64; Engine::BIDDERS]
+    requires { ⌜ pool ≤ poolLimit ⌝ }
+    requires { ⌜ total weights ≤ columnLimit ⌝ }
+    requires { ⌜ 0 < whole ⌝ }
+    ensures { λ r. ⌜ r ≡ map (remainderOf pool whole) weights ⌝ }
+{
+    let mut rems: [u64; Engine::BIDDERS] = [0; Engine::BIDDERS];
+    for i in 0..Engine::BIDDERS {
+        let rem = remainder_of(pool, whole, weights[i]);
+        rems[i] = rem;
+    }
+    rems
+}
+
+// The sum of shares that a pool holds.
+fn shares_total(shares: [u64; Engine::BIDDERS]) -> u64
+    requires { ⌜ total shares ≤ poolLimit ⌝ }
+    ensures { λ r. ⌜ r ≡ total shares ⌝ }
+{
+    let mut sum: u64 = 0;
+    for i in 0..Engine::BIDDERS {
+        sum += shares[i];
+    }
+    sum
+}
+
+// The place of the first largest remainder.
+fn largest_of(rems: [u64; Engine::BIDDERS]) -> usize
+    ensures { λ r. ⌜ r ≡ largest rems ⌝ }
+    ensures { λ r. ⌜ r < bidderLimit ⌝ }
+{
+    let mut best: usize = 0;
+    for i in 0..Engine::BIDDERS {
+        if rems[best] < rems[i] {
+            best = i;
+        }
+    }
+    best
+}
+
+// The shares with the cents left, one each by largest remainder.
+fn hand_out(
+    cents: u64,
+    remainders: [u64; Engine::BIDDERS],
+    floors: [u64; Engine::BIDDERS],
+) -> [u64; Engine::BIDDERS]
+    requires { ⌜ total floors + cents ≤ poolLimit ⌝ }
+    ensures { λ r. ⌜ r ≡ handOut cents remainders floors ⌝ }
+{
+    let mut rems = remainders;
+    let mut shares = floors;
+    for given in 0..cents {
+        let place = largest_of(rems);
+        shares[place] = shares[place] + 1;
+        rems[place] = 0;
+    }
+    shares
+}
+
+// The share of each participant in a pool; a pool with no weight is empty.
+pub fn share_pool(pool: u64, weights: [u32; Engine::BIDDERS]) -> [u64; Engine::BIDDERS]
+    requires { ⌜ pool ≤ poolLimit ⌝ }
+    requires { ⌜ total weights ≤ columnLimit ⌝ }
+    requires { ⌜ (0 < pool → 0 < total weights) ⌝ }
+    ensures { λ r. ⌜ r ≡ poolShares pool weights ⌝ }
+{
+    let whole = pool_weights::column_total(weights);
+    if whole == 0 {
+        return [0; Engine::BIDDERS];
+    }
+    let floors = floors_of(pool, whole, weights);
+    let remainders = remainders_of(pool, whole, weights);
+    hand_out(pool - shares_total(floors), remainders, floors)
+}

@@ -1,0 +1,67 @@
+use mir.Syntax.{w32}
+use mir.Val.{Fits}
+use lib.ListN.{getD}
+use borrow.Author.Needs.{needs}
+use Prim.Native.Nat.{_*_, _-_, _^_, _≤_}
+use native.Mathlib.Omega.{arith}
+use Rattle.market.specs.Limits.{bidderLimit}
+use Rattle.sharing.proofs.Loops.{Summed, summed-next, summed-all}
+use Rattle.pool_weights.proofs.column_total.Statement.{statement}
+use Rattle.pool_weights.proofs.column_total.Tie as tie
+
+abbrev Inv-loop : tie.InvT-loop
+Inv-loop column sum₀ bidder₀ sum bidder = (bidder ≤ bidderLimit) × (sum ≤ bidder * (2 ^ 32)) × Summed column bidder sum
+
+abbrev μ-loop : tie.MeasureT-loop
+μ-loop column sum₀ bidder₀ sum bidder = bidderLimit - bidder
+
+loop-holds : tie.Need-loop-holds Inv-loop μ-loop
+loop-holds c = (search needs, search needs, omega arith)
+
+mul-sum : tie.Need-mul-sum Inv-loop μ-loop
+mul-sum c = search needs
+
+array-read-sum : tie.Need-array-read-sum Inv-loop μ-loop
+array-read-sum c = search needs
+
+cast-sum : tie.Need-cast-sum Inv-loop μ-loop
+cast-sum c = search needs
+
+add-sum : tie.Need-add-sum Inv-loop μ-loop
+add-sum c =
+    let l = c .before .before .args .t1 in
+    let bidder = c .before .loop .bidder in
+    let small : Fits w32 (getD l bidder 0) = search needs in
+    omega arith
+
+add-bidder : tie.Need-add-bidder Inv-loop μ-loop
+add-bidder c = search needs
+
+loop-less : tie.Need-loop-less Inv-loop μ-loop
+loop-less c = search needs
+
+loop-again : tie.Need-loop-again Inv-loop μ-loop
+loop-again c =
+    let l = c .before .before .args .t1 in
+    let bidder = c .before .loop .bidder in
+    let small : Fits w32 (getD l bidder 0) = search needs in
+    (search needs, omega arith, summed-next l bidder (c .before .loop .sum) (c .before .loop .inv .2) (search needs))
+
+returns : tie.Need-returns Inv-loop μ-loop
+returns c = summed-all (c .before .before .args .t1) (c .before .loop .bidder) (c .before .loop .sum) (c .before .loop .inv .2) (search needs)
+
+pub column-total-spec : {M : Type 1} → statement M
+column-total-spec =
+    tie.close
+    (tie.spec
+    Inv-loop
+    μ-loop
+    loop-holds
+    mul-sum
+    array-read-sum
+    cast-sum
+    add-sum
+    add-bidder
+    loop-less
+    loop-again
+    returns)

@@ -1,0 +1,88 @@
+use borrow.Author.Needs.{needs}
+use Prim.Native.Nat.{ℕ, _-_, _≤_, _<_}
+use mathlib.Core.Path.{_≡_}
+use lib.ListN.{length, getD}
+use native.Mathlib.Omega.{arith}
+use Rattle.market.specs.Limits.{bidderLimit}
+use Rattle.sharing.proofs.Eligible.{all-eligible}
+use Rattle.sharing.proofs.Loops.{stored-next}
+use Rattle.sharing.specs.Sharing.{weightOf}
+use Rattle.pool_weights.proofs.eligible_energy.Statement.{statement}
+use Rattle.pool_weights.proofs.eligible_energy.Tie as tie
+
+abbrev Inv-loop : tie.InvT-loop
+Inv-loop charges energy weights₀ i₀ weights i = (i ≤ bidderLimit) × (length weights ≡ bidderLimit) × ((j : ℕ) → j < i → getD weights j 0 ≡ weightOf (getD charges j 0) (getD energy j 0))
+
+abbrev μ-loop : tie.MeasureT-loop
+μ-loop charges energy weights₀ i₀ weights i = bidderLimit - i
+
+loop-holds : tie.Need-loop-holds Inv-loop μ-loop
+loop-holds c = (search needs, search needs, λ j p. absurd (omega arith))
+
+mul-weight-of : tie.Need-mul-weight-of Inv-loop μ-loop
+mul-weight-of c = search needs
+
+array-read-weight-of : tie.Need-array-read-weight-of Inv-loop μ-loop
+array-read-weight-of c = search needs
+
+mul-weight-of-2 : tie.Need-mul-weight-of-2 Inv-loop μ-loop
+mul-weight-of-2 c = search needs
+
+array-read-weight-of-2 : tie.Need-array-read-weight-of-2 Inv-loop μ-loop
+array-read-weight-of-2 c = search needs
+
+weight-of-requires : tie.Need-weight-of-requires Inv-loop μ-loop
+weight-of-requires c κs = search needs
+
+mul-weights : tie.Need-mul-weights Inv-loop μ-loop
+mul-weights c = search needs
+
+array-write-weights : tie.Need-array-write-weights Inv-loop μ-loop
+array-write-weights c = search needs
+
+add-i : tie.Need-add-i Inv-loop μ-loop
+add-i c = search needs
+
+loop-less : tie.Need-loop-less Inv-loop μ-loop
+loop-less c = search needs
+
+loop-again : tie.Need-loop-again Inv-loop μ-loop
+loop-again c =
+    let a = c .before .before .before .args in
+    let at = c .before .before .loop in
+    let long : length (at .weights) ≡ bidderLimit = at .inv .1 in (
+      search needs,
+      search needs,
+      stored-next (λ (j : ℕ). weightOf (getD (a .t1) j 0) (getD (a .t2) j 0)) (at .weights) (at .i) (c .weight-of .result)
+          (omega arith)
+          (at .inv .2)
+          (c .weight-of .ensures),
+    )
+
+returns : tie.Need-returns Inv-loop μ-loop
+returns c =
+    let a = c .before .before .args in
+    let at = c .before .loop in
+    let long : length (a .t1) ≡ bidderLimit = search needs in
+    let alike : length (a .t2) ≡ bidderLimit = search needs in
+    all-eligible (a .t1) (a .t2) (at .weights) (omega arith) (omega (arith, at .inv .1))
+    (λ (j : ℕ) (p : j < length (at .weights)). at .inv .2 j (omega (arith, at .inv .1)))
+
+pub eligible-energy-spec : {M : Type 1} → statement M
+eligible-energy-spec =
+    tie.close
+    (tie.spec
+    Inv-loop
+    μ-loop
+    loop-holds
+    mul-weight-of
+    array-read-weight-of
+    mul-weight-of-2
+    array-read-weight-of-2
+    weight-of-requires
+    mul-weights
+    array-write-weights
+    add-i
+    loop-less
+    loop-again
+    returns)

@@ -1,0 +1,91 @@
+use borrow.Author.Needs.{needs}
+use Prim.Native.Nat.{ℕ, _+_, _-_, _≤_, _<_}
+use mathlib.Core.Path.{_≡_, refl}
+use lib.ListN.{length, getD}
+use native.Mathlib.Omega.{arith}
+use Rattle.market.specs.Limits.{bidderLimit}
+use Rattle.sharing.proofs.Loops.{stored-next}
+use Rattle.sharing.proofs.Totals.{total-at}
+use Rattle.pools.proofs.Together.{all-together}
+use Rattle.pools.proofs.add_shares.Statement.{statement}
+use Rattle.pools.proofs.add_shares.Tie as tie
+
+abbrev Inv-loop : tie.InvT-loop
+Inv-loop first second sums₀ i₀ sums i = (i ≤ bidderLimit) × (length sums ≡ bidderLimit) × ((j : ℕ) → j < i → getD sums j 0 ≡ getD first j 0 + getD second j 0)
+
+abbrev μ-loop : tie.MeasureT-loop
+μ-loop first second sums₀ i₀ sums i = bidderLimit - i
+
+loop-holds : tie.Need-loop-holds Inv-loop μ-loop
+loop-holds c = (search needs, search needs, λ j p. absurd (omega arith))
+
+mul-sums : tie.Need-mul-sums Inv-loop μ-loop
+mul-sums c = search needs
+
+array-read-sums : tie.Need-array-read-sums Inv-loop μ-loop
+array-read-sums c = search needs
+
+mul-sums-2 : tie.Need-mul-sums-2 Inv-loop μ-loop
+mul-sums-2 c = search needs
+
+array-read-sums-2 : tie.Need-array-read-sums-2 Inv-loop μ-loop
+array-read-sums-2 c = search needs
+
+add-sums : tie.Need-add-sums Inv-loop μ-loop
+add-sums c =
+    let a = c .before .before .args in
+    let i = c .before .loop .i in
+    omega (arith, total-at (a .t1) i, total-at (a .t2) i)
+
+mul-sums-3 : tie.Need-mul-sums-3 Inv-loop μ-loop
+mul-sums-3 c = search needs
+
+array-write-sums : tie.Need-array-write-sums Inv-loop μ-loop
+array-write-sums c = search needs
+
+add-i : tie.Need-add-i Inv-loop μ-loop
+add-i c = search needs
+
+loop-less : tie.Need-loop-less Inv-loop μ-loop
+loop-less c = search needs
+
+loop-again : tie.Need-loop-again Inv-loop μ-loop
+loop-again c =
+    let a = c .before .before .args in
+    let at = c .before .loop in
+    let long : length (at .sums) ≡ bidderLimit = at .inv .1 in (
+      search needs,
+      search needs,
+      stored-next (λ (j : ℕ). getD (a .t1) j 0 + getD (a .t2) j 0) (at .sums) (at .i) (getD (a .t1) (at .i) 0 + getD (a .t2) (at .i) 0)
+          (omega arith)
+          (at .inv .2)
+          refl,
+    )
+
+returns : tie.Need-returns Inv-loop μ-loop
+returns c =
+    let a = c .before .before .args in
+    let at = c .before .loop in
+    let long : length (a .t1) ≡ bidderLimit = search needs in
+    let alike : length (a .t2) ≡ bidderLimit = search needs in
+    all-together (a .t1) (a .t2) (at .sums) (omega arith) (omega (arith, at .inv .1))
+    (λ (j : ℕ) (p : j < length (at .sums)). at .inv .2 j (omega (arith, at .inv .1)))
+
+pub add-shares-spec : {M : Type 1} → statement M
+add-shares-spec =
+    tie.close
+    (tie.spec
+    Inv-loop
+    μ-loop
+    loop-holds
+    mul-sums
+    array-read-sums
+    mul-sums-2
+    array-read-sums-2
+    add-sums
+    mul-sums-3
+    array-write-sums
+    add-i
+    loop-less
+    loop-again
+    returns)

@@ -1,0 +1,2 @@
+-- The rules of the two pools of a total.
+pub mod Pools

@@ -1,0 +1,2 @@
+-- Laws about the lines of a section.
+pub mod BidderLaws

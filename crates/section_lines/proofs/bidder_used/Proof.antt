@@ -1,0 +1,35 @@
+use native.Mathlib.Omega.{arith}
+use lib.ListN.{drop}
+use Rattle.section_lines.proofs.BidderLaws.{bidder-low, bidder-high, bidder-here}
+use borrow.Author.Needs.{needs}
+use Rattle.section_lines.proofs.bidder_used.Statement.{statement}
+use Rattle.section_lines.proofs.bidder_used.Tie as tie
+
+field-at-requires : tie.Need-field-at-requires
+field-at-requires c κs = search needs
+
+returns : tie.Need-returns
+returns c =
+    let a = c .before .before .before .before .args in
+    let bidder = c .before .before .field-at in
+    (bidder-low (a .least) (drop (a .at) (a .bytes .now)) (bidder .result) (bidder .ensures .0) (omega arith), search needs)
+
+returns-2 : tie.Need-returns-2
+returns-2 c =
+    let a = c .before .before .before .before .before .before .args in
+    let bidder = c .before .before .before .before .field-at in
+    (bidder-high (a .least) (drop (a .at) (a .bytes .now)) (bidder .result) (bidder .ensures .0) (omega arith), search needs)
+
+numbers-used-requires : tie.Need-numbers-used-requires
+numbers-used-requires c κs = search needs
+
+returns-3 : tie.Need-returns-3
+returns-3 c =
+    let a = c .before .before .before .before .before .before .before .args in
+    let bidder = c .before .before .before .before .before .field-at in
+    let all = c .numbers-used in
+    (bidder-here (a .least) (drop (a .at) (a .bytes .now)) (bidder .result) (bidder .ensures .0) (omega arith) (omega arith) (all .result) (all .ensures .0), all .ensures .1)
+
+pub bidder-used-spec : {M : Type 1} → statement M
+bidder-used-spec =
+    tie.close (tie.spec field-at-requires returns returns-2 numbers-used-requires returns-3)

@@ -1,0 +1,94 @@
+use native.Mathlib.Omega.{arith}
+use Prim.Native.Nat.{ℕ, _+_}
+use mathlib.Core.Path.{sym, _∙_, ap, ap₂}
+use lib.ListN.{drop}
+use Rattle.fields.specs.Fields.{space, amountTop}
+use Rattle.fields.specs.declared.Field.{Field}
+use Rattle.fields.proofs.ReadLaws.{field-within}
+use Rattle.lines.specs.Lines.{lineAt}
+use Rattle.lines.specs.declared.part.Part.{Part}
+use Rattle.lines.specs.declared.part.Step.{Step}
+use borrow.Author.Needs.{needs}
+use Rattle.section_lines.proofs.line_at.Statement.{statement}
+use Rattle.section_lines.proofs.line_at.Tie as tie
+
+abbrev stepOf : ℕ → ℕ → Step
+stepOf used next = record { used = used; next = next }
+
+enum-told : tie.Need-enum-told
+enum-told c = search needs
+
+field-at-requires : tie.Need-field-at-requires
+field-at-requires c κs = search needs
+
+bidder-used-requires : tie.Need-bidder-used-requires
+bidder-used-requires c κs = search needs
+
+add-t8 : tie.Need-add-t8
+add-t8 c =
+    let a = c .before .before .before .before .before .before .args in
+    let bidder = c .before .before .field-at in
+    omega (arith, field-within amountTop space (drop (a .at) (a .bytes .now)) (bidder .result) (bidder .ensures .0))
+
+enum-told-2 : tie.Need-enum-told-2
+enum-told-2 c = search needs
+
+path-used-requires : tie.Need-path-used-requires
+path-used-requires c κs = search needs
+
+add-t10 : tie.Need-add-t10
+add-t10 c = search needs
+
+enum-told-3 : tie.Need-enum-told-3
+enum-told-3 c = search needs
+
+bid-used-requires : tie.Need-bid-used-requires
+bid-used-requires c κs = search needs
+
+returns : tie.Need-returns
+returns c =
+    let a = c .before .before .before .before .before .before .args in
+    let bidder = c .before .before .field-at in
+    let used = c .before .bidder-used in
+    let told = c .before .before .before .enum-told .given .1 in (
+      ap₂ (λ (u : ℕ) (f : Field). stepOf u (f .value + 1)) (used .ensures .0) (bidder .ensures .0)
+          ∙ ap (λ (p : Part). lineAt p (a .state) (drop (a .at) (a .bytes .now))) (sym told),
+      used .ensures .1,
+    )
+
+returns-2 : tie.Need-returns-2
+returns-2 c =
+    let a = c .before .before .before .before .args in
+    let used = c .path-used in
+    let told = c .before .enum-told2 .given .1 in (
+      ap (λ (u : ℕ). stepOf u (a .state + 1)) (used .ensures .0)
+          ∙ ap (λ (p : Part). lineAt p (a .state) (drop (a .at) (a .bytes .now))) (sym told),
+      used .ensures .1,
+    )
+
+returns-3 : tie.Need-returns-3
+returns-3 c =
+    let a = c .before .before .before .before .args in
+    let used = c .bid-used in
+    let told = c .before .enum-told3 .given .1 in (
+      ap (λ (u : ℕ). stepOf u (a .state)) (used .ensures .0)
+          ∙ ap (λ (p : Part). lineAt p (a .state) (drop (a .at) (a .bytes .now))) (sym told),
+      used .ensures .1,
+    )
+
+pub line-at-spec : {M : Type 1} → statement M
+line-at-spec =
+    tie.close
+    (tie.spec
+    enum-told
+    field-at-requires
+    bidder-used-requires
+    add-t8
+    enum-told-2
+    path-used-requires
+    add-t10
+    enum-told-3
+    bid-used-requires
+    returns
+    returns-2
+    returns-3)

@@ -1,0 +1,2 @@
+-- Laws about paths and what they sold.
+pub mod SoldLaws

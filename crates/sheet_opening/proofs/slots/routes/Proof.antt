@@ -1,0 +1,77 @@
+use borrow.Author.Needs.{needs}
+use Prim.Native.Nat.{_-_}
+use mathlib.Core.Path.{ap}
+use lib.ListN.{replicate}
+use Rattle.market.specs.Limits.{pathLimit}
+use Rattle.market.specs.declared.book.Route.{Route}
+use Rattle.sheets.specs.Slots.{noPathLine}
+use Rattle.preparing.specs.Preparing.{routeOf, noRoute}
+use Rattle.preparing.proofs.SlotLaws.{FilledTo, none-filled, one-filled, every-filled}
+use Rattle.sheet_opening.proofs.slots.routes.Statement.{statement}
+use Rattle.sheet_opening.proofs.slots.routes.Tie as tie
+
+abbrev Inv-loop : tie.InvT-loop
+Inv-loop lines routes₀ i₀ routes i = FilledTo routeOf lines pathLimit noRoute routes i
+
+abbrev μ-loop : tie.MeasureT-loop
+μ-loop lines routes₀ i₀ routes i = pathLimit - i
+
+no-route-requires : tie.Need-no-route-requires Inv-loop μ-loop
+no-route-requires c κs = search needs
+
+loop-holds : tie.Need-loop-holds Inv-loop μ-loop
+loop-holds c =
+    let lines = c .before .args .t1 in
+    none-filled routeOf lines pathLimit noRoute _ (ap (λ (r : Route). replicate pathLimit r) (c .no-route .ensures))
+
+mul-route-of : tie.Need-mul-route-of Inv-loop μ-loop
+mul-route-of c = search needs
+
+array-copy-out-route-of : tie.Need-array-copy-out-route-of Inv-loop μ-loop
+array-copy-out-route-of c = search needs
+
+route-of-requires : tie.Need-route-of-requires Inv-loop μ-loop
+route-of-requires c κs = search needs
+
+mul-routes : tie.Need-mul-routes Inv-loop μ-loop
+mul-routes c = search needs
+
+array-set-from-routes : tie.Need-array-set-from-routes Inv-loop μ-loop
+array-set-from-routes c = search needs
+
+add-i : tie.Need-add-i Inv-loop μ-loop
+add-i c = search needs
+
+loop-less : tie.Need-loop-less Inv-loop μ-loop
+loop-less c = search needs
+
+loop-again : tie.Need-loop-again Inv-loop μ-loop
+loop-again c =
+    let lines = c .before .before .before .before .before .args .t1 in
+    let at = c .before .before .before .loop in
+    one-filled routeOf lines pathLimit noRoute (at .routes) (at .i) (at .inv) (search needs)
+    noPathLine (c .route-of .result) (search needs) (c .route-of .ensures)
+
+returns : tie.Need-returns Inv-loop μ-loop
+returns c =
+    let lines = c .before .before .before .args .t1 in
+    let at = c .before .loop in
+    every-filled routeOf lines pathLimit noRoute (at .routes) (at .i) (at .inv) (search needs) (search needs)
+
+pub routes-spec : {M : Type 1} → statement M
+routes-spec =
+    tie.close
+    (tie.spec
+    Inv-loop
+    μ-loop
+    no-route-requires
+    loop-holds
+    mul-route-of
+    array-copy-out-route-of
+    route-of-requires
+    mul-routes
+    array-set-from-routes
+    add-i
+    loop-less
+    loop-again
+    returns)

@@ -1,0 +1,2 @@
+-- Laws about the entries of the bids that won.
+pub mod EntryLaws
