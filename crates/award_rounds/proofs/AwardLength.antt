@@ -8,7 +8,7 @@ use lib.Dec.{eqb, ltb}
 use lib.ListN.{length, length-append}
 use borrow.Author.Tests.{ltb-true}
 use Rattle.market.proofs.SoundLaws.{BidderBounds, bidder-within}
-use Rattle.market.proofs.Tests.{left-true, right-true}
+use Rattle.market.proofs.Tests.{left-true, right-true, kept-at-most}
 use Rattle.market.specs.Books.{every, bidderOf}
 use Rattle.market.specs.Limits.{bidderLimit, pathLimit, admitted, awardSheetBytes}
 use Rattle.market.specs.Sound.{soundBook}
@@ -123,11 +123,8 @@ awards-size answers bid (b ∷ bs) s =
 
 winners-few : (answers : List ℕ) (bid : ℕ) (bs : List Bid) → winners answers bid bs ≤ length bs
 winners-few answers bid [] = omega arith
-winners-few answers bid (b ∷ bs) = omega (arith, one (ltb 0 (wonIn answers bid)), winners-few answers (bid + 1) bs)
-  where
-    one : (t : Bool) → cond t 1 0 ≤ 1
-    one true = omega arith
-    one false = omega arith
+winners-few answers bid (b ∷ bs) =
+    omega (arith, kept-at-most (ltb 0 (wonIn answers bid)) 1, winners-few answers (bid + 1) bs)
 
 paths-size : (results : List ℕ) (n : ℕ) → ((path : ℕ) → path < n → PathSizes results path) → length (pathLines results n) ≤ n * 23
 paths-size results zero s = omega arith

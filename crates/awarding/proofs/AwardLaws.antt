@@ -10,7 +10,7 @@ use lib.Seq.{drop-cons, getD-take, length-take-le, getD-set-same, getD-set-other
 use borrow.Author.Tests.{le-leb, leb-true, ltb-true, eqb-true, eqb-false}
 use Rattle.market.proofs.Filled.{zeros-at}
 use Rattle.market.proofs.Every.{every-at-any, every-within, every-set}
-use Rattle.market.proofs.Tests.{left-true, right-true}
+use Rattle.market.proofs.Tests.{left-true, right-true, kept-at-most}
 use Rattle.market.specs.Books.{every}
 use Rattle.market.specs.Limits.{pathLimit, bidLimit, quantityLimit, pairWords}
 use Rattle.market.specs.Sound.{soundQuantity}
@@ -47,10 +47,6 @@ lowered l i price k inside = go (eqb i k) refl
         (getD-set-same l i (lower (getD l i 0) price) 0 inside)
     go false e =
         getD-set-other l i k (lower (getD l i 0) price) 0 (λ s. eqb-false i k e (sym s)) ∙ sym (lower-none (getD l k 0))
-
-added-most : (s : Bool) (t : ℕ) → cond s t 0 ≤ t
-added-most true t = omega arith
-added-most false t = omega arith
 
 and-cond : (s t : Bool) (n : ℕ) → cond s (cond t n 0) 0 ≡ cond (s && t) n 0
 and-cond true t n = refl
@@ -183,8 +179,8 @@ module _ (words order : List ℕ) (lots : ℕ) (offered : List ℕ) (i : ℕ) (l
           left-long = length-set left (lot .path) (getD left (lot .path) 0 - t) ∙ s .left-long;
           left-sound = every-set soundQuantity left (lot .path) (getD left (lot .path) 0 - t) (s .left-sound)
               (le-leb (getD left (lot .path) 0 - t) quantityLimit (omega (arith, most)));
-          won-within = λ k. omega (arith, s .won-within k, most, added-most (eqb (lot .bid) k) t, added won (lot .bid) t k (omega (arith, bid, s .won-long)));
-          sold-within = λ p. omega (arith, s .sold-within p, most, added-most (eqb (lot .path) p) t, added sold (lot .path) t p (omega (arith, below, s .sold-long)));
+          won-within = λ k. omega (arith, s .won-within k, most, kept-at-most (eqb (lot .bid) k) t, added won (lot .bid) t k (omega (arith, bid, s .won-long)));
+          sold-within = λ p. omega (arith, s .sold-within p, most, kept-at-most (eqb (lot .path) p) t, added sold (lot .path) t p (omega (arith, below, s .sold-long)));
         }
 
     -- the lot here has taken

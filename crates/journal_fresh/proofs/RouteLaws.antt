@@ -5,12 +5,13 @@ use mathlib.Core.List.{List}
 use Prim.Native.Nat.{ℕ, _+_}
 use lib.ListN.{drop}
 use lib.Seq.{drop-drop}
+use Rattle.market.specs.Books.{noRoute}
 use Rattle.market.specs.declared.book.Route.{Route}
 use Rattle.fields.specs.Fields.{wordTop}
 use Rattle.fields.specs.declared.Field.{Field}
 use Rattle.journal_fields.specs.JournalFields.{stands, number, choice}
 use Rattle.journal_fresh.specs.declared.RouteField.{RouteField}
-use Rattle.journal_fresh.specs.FreshLines.{exportOption, importOption, wayOf, noRoute, routeOf, routeAt}
+use Rattle.journal_fresh.specs.FreshLines.{exportOption, importOption, wayOf, routeOf, routeAt}
 
 abbrev pub routed : Route → ℕ → RouteField
 routed route used = record { route = route; used = used }

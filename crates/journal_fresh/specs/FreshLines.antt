@@ -4,6 +4,7 @@ use mathlib.Core.List.{List, [], _∷_}
 use Prim.Native.Nat.{ℕ, _+_}
 use lib.Dec.{eqb}
 use lib.ListN.{length, take, drop, replicate}
+use Rattle.market.specs.Books.{noRoute}
 use Rattle.market.specs.Limits.{pathLimit}
 use Rattle.market.specs.declared.book.Direction.{Direction}
 use Rattle.market.specs.declared.book.Direction.the-variants.{Export, Import}
@@ -24,9 +25,6 @@ importOption = 32 ∷ 77 ∷ []
 
 abbrev pub wayOf : ℕ → Direction
 wayOf n = cond (eqb n 0) Export Import
-
-abbrev pub noRoute : Route
-noRoute = record { direction = Export; zone = 0 }
 
 -- a route at the front of a text, and the bytes that it takes, 0 where it does not stand there
 abbrev pub routeOf : Field → Field → RouteField

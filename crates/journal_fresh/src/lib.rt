@@ -6,6 +6,7 @@ use market::engine::Engine;
 ghost use mathlib.Core.Path.{_≡_};
 ghost use Prim.Native.Nat.{_+_, _≤_};
 ghost use lib.ListN.{length, drop};
+ghost use Rattle.market.specs.Books.{noRoute};
 ghost use Rattle.journal_fresh.specs.FreshLines as rules;
 
 // A route that was read, and the bytes that it takes, 0 where it does not stand there.
@@ -31,7 +32,7 @@ fn way_of(n: u64) -> Direction
 }
 
 fn no_route() -> Route
-    ensures { λ r. ⌜ r ≡ rules.noRoute ⌝ }
+    ensures { λ r. ⌜ r ≡ noRoute ⌝ }
 {
     Route {
         direction: Direction::Export,

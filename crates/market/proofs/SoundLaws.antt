@@ -13,13 +13,7 @@ use Rattle.market.specs.Limits.{pathLimit, zoneLimit, quantityLimit, ent
 use Rattle.market.specs.Sound.{soundPathCount, soundStage, roundOf, soundPath, soundBidder, soundAccount, soundBook}
 use Rattle.market.specs.declared.book.Bidder.{Bidder}
 use Rattle.market.specs.declared.book.Book.{Book}
-use Rattle.market.specs.declared.book.Direction.the-variants.{Export}
 use Rattle.market.specs.declared.book.Path.{Path}
-use Rattle.market.specs.declared.book.Route.{Route}
-
--- what is read past the end of a list of routes
-abbrev pub noRoute : Route
-noRoute = record { direction = Export; zone = 0 }
 
 pub count-within : (n : ℕ) → soundPathCount n ≡ true → n ≤ pathLimit
 count-within n h = leb-true n pathLimit (right-true (leb 1 n) (leb n pathLimit) h)

@@ -1,6 +1,6 @@
 -- Laws about tests on numbers and on lists.
 use mathlib.Core.Path.{_≡_, refl, sym, _∙_, ap}
-use mathlib.Core.Bool.{Bool, true, false, _&&_, _||_, false≢true}
+use mathlib.Core.Bool.{Bool, true, false, cond, _&&_, _||_, false≢true}
 use mathlib.Core.List.{List}
 use Prim.Native.Nat.{ℕ, _+_, _-_, _≤_, _<_}
 use native.Mathlib.Omega.{arith}
@@ -24,6 +24,11 @@ right-true false t h = absurd (false≢true h)
 pub neither-true : (s t : Bool) → (s || t) ≡ false → (s ≡ false) × (t ≡ false)
 neither-true true t h = absurd (false≢true (sym h))
 neither-true false t h = (refl, h)
+
+-- what a test lets through is no more than it was
+pub kept-at-most : (t : Bool) (n : ℕ) → cond t n 0 ≤ n
+kept-at-most true n = omega arith
+kept-at-most false n = omega arith
 
 -- two orders that follow from one another test alike
 pub leb-same : (a b c d : ℕ) → (a ≤ b → c ≤ d) → (c ≤ d → a ≤ b) → leb a b ≡ leb c d

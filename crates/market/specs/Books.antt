@@ -10,6 +10,7 @@ use Rattle.market.specs.declared.book.Bidder.{Bidder}
 use Rattle.market.specs.declared.book.Book.{Book}
 use Rattle.market.specs.declared.book.Direction.the-variants.{Export}
 use Rattle.market.specs.declared.book.Path.{Path}
+use Rattle.market.specs.declared.book.Route.{Route}
 use Rattle.market.specs.declared.book.Stage.{Stage}
 use Rattle.market.specs.declared.units.Balance.{Balance}
 use Rattle.market.specs.declared.units.Cents.{Cents}
@@ -46,6 +47,10 @@ pathsOf b = take (b .«path_count») (b .paths)
 -- a path with nothing, as past the book's paths
 abbrev pub noPath : Path
 noPath = record { direction = Export; zone = 0; offer = megawatts 0; sold = megawatts 0 }
+
+-- a route to nowhere, as past the routes of a fresh book's paths
+abbrev pub noRoute : Route
+noRoute = record { direction = Export; zone = 0 }
 
 -- a bidder with nothing, as in a fresh book: "all else 0"
 abbrev pub noBidder : Bidder

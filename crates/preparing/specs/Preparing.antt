@@ -3,12 +3,11 @@ use mathlib.Core.List.{List, [], _∷_, map}
 use Prim.Native.Nat.{ℕ, zero, suc}
 use lib.ListN.{length, replicate}
 use Rattle.market.specs.Answers.{answerNumber, answered}
-use Rattle.market.specs.Books.{cents}
+use Rattle.market.specs.Books.{cents, noRoute}
 use Rattle.market.specs.Fresh.{fresh}
 use Rattle.market.specs.Limits.{pathLimit, registerWords}
 use Rattle.market.specs.declared.answer.Outcome.{Outcome}
 use Rattle.market.specs.declared.book.Book.{Book}
-use Rattle.market.specs.declared.book.Direction.the-variants.{Export}
 use Rattle.market.specs.declared.book.Kind.{Kind}
 use Rattle.market.specs.declared.book.Period.{Period}
 use Rattle.market.specs.declared.book.Route.{Route}
@@ -44,9 +43,6 @@ deposits b (x ∷ xs) = andThen (lineDeposits b x) (λ after. deposits after xs)
 -- the routes of the first 16 paths, and past the last path routes that are no part of the book
 abbrev pub routeOf : PathLine → Route
 routeOf p = record { direction = p .direction; zone = p .zone }
-
-abbrev pub noRoute : Route
-noRoute = record { direction = Export; zone = 0 }
 
 abbrev pub routesOf : List PathLine → List Route
 routesOf ps = filled pathLimit noRoute (map routeOf ps)

@@ -1,11 +1,12 @@
 -- Lines written and winners counted bid by bid, along a walk over a list of words.
 use mathlib.Core.Path.{_≡_, sym, _∙_, ap, subst}
-use mathlib.Core.Bool.{Bool, true, false, cond}
+use mathlib.Core.Bool.{true, cond}
 use mathlib.Core.List.{List, [], _∷_, _++_}
 use Prim.Native.Nat.{ℕ, _+_, _≤_, _<_}
 use native.Mathlib.Omega.{arith}
 use lib.Dec.{ltb}
 use lib.ListN.{length}
+use Rattle.market.proofs.Tests.{kept-at-most}
 use Rattle.market.specs.Limits.{pathLimit}
 use Rattle.text.specs.Put.{putAt}
 use Rattle.bids.proofs.BidLaws.{fits-list}
@@ -73,11 +74,7 @@ abbrev pub oneIf : List ℕ → ℕ → ℕ
 oneIf answers k = cond (ltb 0 (wonIn answers k)) 1 0
 
 pub one-most : (answers : List ℕ) (k : ℕ) → oneIf answers k ≤ 1
-one-most answers k = go (ltb 0 (wonIn answers k))
-  where
-    go : (t : Bool) → cond t 1 0 ≤ 1
-    go true = omega arith
-    go false = omega arith
+one-most answers k = kept-at-most (ltb 0 (wonIn answers k)) 1
 
 pub winners-start : (words answers : List ℕ) → soundList pathLimit words ≡ true → WinnersTo words answers 0 0 0
 winners-start words answers ok =

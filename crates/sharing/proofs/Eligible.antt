@@ -1,6 +1,6 @@
 -- Laws about the weights of a pool.
 use mathlib.Core.Path.{_≡_, refl, sym, _∙_, ap}
-use mathlib.Core.Bool.{Bool, true, false, cond}
+use mathlib.Core.Bool.{Bool, cond}
 use mathlib.Core.List.{List, [], _∷_}
 use Prim.Native.Nat.{ℕ, zero, suc, _≤_, _<_}
 use native.Mathlib.Omega.{arith}
@@ -8,6 +8,7 @@ use borrow.Author.Tests.{lt-ltb}
 use lib.Dec.{ltb}
 use lib.ListN.{length, getD}
 use lib.Seq.{ext-getD}
+use Rattle.market.proofs.Tests.{kept-at-most}
 use Rattle.sharing.proofs.Totals.{total-at}
 use Rattle.sharing.specs.Sharing.{total, weightOf, eligible}
 
@@ -36,14 +37,10 @@ all-eligible cs es ws p q h =
     (λ (j : ℕ) (b : j < length ws). h j b ∙ sym (eligible-at cs es j p))
 
 -- the weights are at most the energy
-weight-at-most : (t : Bool) (energy : ℕ) → cond t energy 0 ≤ energy
-weight-at-most true energy = omega arith
-weight-at-most false energy = omega arith
-
 pub eligible-total : (cs es : List ℕ) → total (eligible cs es) ≤ total es
 eligible-total [] es = omega arith
 eligible-total (c ∷ cs) [] = omega arith
-eligible-total (c ∷ cs) (e ∷ es) = omega (arith, weight-at-most (ltb 0 c) e, eligible-total cs es)
+eligible-total (c ∷ cs) (e ∷ es) = omega (arith, kept-at-most (ltb 0 c) e, eligible-total cs es)
 
 -- one participant with a charge and energy is enough for weights
 pub some-eligible : (cs es : List ℕ) (i : ℕ) → length cs ≡ length es → 0 < getD cs i 0 → 0 < getD es i 0 → 0 < total (eligible cs es)

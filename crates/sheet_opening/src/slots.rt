@@ -5,7 +5,8 @@ use market::engine::Engine;
 use sheets::rows::PathLine;
 ghost use mathlib.Core.Path.{_≡_};
 ghost use mathlib.Core.List.{map};
-ghost use Rattle.preparing.specs.Preparing.{routeOf, noRoute, quantitiesOf};
+ghost use Rattle.market.specs.Books.{noRoute};
+ghost use Rattle.preparing.specs.Preparing.{routeOf, quantitiesOf};
 
 // The quantities of all slots: so many words.
 pub const QUANTITIES: usize = Engine::PATHS * Engine::QUANTITY_WORDS;

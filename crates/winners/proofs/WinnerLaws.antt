@@ -1,11 +1,12 @@
 -- Laws about the count of bids that won.
 use mathlib.Core.Path.{_≡_, ap}
-use mathlib.Core.Bool.{Bool, true, false, cond}
+use mathlib.Core.Bool.{cond}
 use mathlib.Core.List.{List}
 use Prim.Native.Nat.{ℕ, zero, suc, _+_, _≤_}
 use native.Mathlib.Omega.{arith}
 use lib.Dec.{ltb}
 use lib.ListN.{getD}
+use Rattle.market.proofs.Tests.{kept-at-most}
 use Rattle.awarding.specs.Tables.{winnersIn}
 
 -- one bid more is counted, and no more bids win than there are
@@ -14,8 +15,4 @@ winners-next won k = ap (winnersIn won) (let next : k + 1 ≡ suc k = omega arit
 
 pub winners-within : (won : List ℕ) (n : ℕ) → winnersIn won n ≤ n
 winners-within won zero = omega arith
-winners-within won (suc n) = omega (arith, winners-within won n, one (ltb 0 (getD won n 0)))
-  where
-    one : (t : Bool) → cond t 1 0 ≤ 1
-    one true = omega arith
-    one false = omega arith
+winners-within won (suc n) = omega (arith, winners-within won n, kept-at-most (ltb 0 (getD won n 0)) 1)

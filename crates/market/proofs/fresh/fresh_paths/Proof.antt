@@ -1,4 +1,3 @@
-use Rattle.market.proofs.SoundLaws.{noRoute}
 use lib.ListN.{set}
 use mathlib.Core.List.{List}
 use Rattle.market.specs.declared.book.Path.{Path}
@@ -8,7 +7,7 @@ use mathlib.Core.Path.{_≡_, _∙_, ap}
 use Prim.Native.Nat.{_≤_, _-_}
 use Rattle.market.proofs.Filled.{filled, fill-next}
 use Rattle.market.specs.Fresh.{freshPath}
-use Rattle.market.specs.Books.{noPath}
+use Rattle.market.specs.Books.{noPath, noRoute}
 use Rattle.market.specs.Limits.{pathLimit}
 use Rattle.market.proofs.fresh.fresh_paths.Statement.{statement}
 use Rattle.market.proofs.fresh.fresh_paths.Tie as tie

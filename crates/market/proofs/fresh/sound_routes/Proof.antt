@@ -1,9 +1,9 @@
-use Rattle.market.proofs.SoundLaws.{noRoute}
 use borrow.Author.Needs.{needs}
 use mathlib.Core.Path.{refl, sym}
 use Prim.Native.Nat.{_≤_, _-_}
 use lib.ListN.{take}
 use Rattle.market.proofs.Tests.{Passed, pass-first, fail-first, passed-first}
+use Rattle.market.specs.Books.{noRoute}
 use Rattle.market.specs.Fresh.{soundRoute}
 use borrow.Author.Tests.{le-leb, lt-leb}
 use Rattle.market.proofs.fresh.sound_routes.Statement.{statement}

@@ -5,7 +5,8 @@ use lib.ListN.{replicate}
 use Rattle.market.specs.Limits.{pathLimit}
 use Rattle.market.specs.declared.book.Route.{Route}
 use Rattle.sheets.specs.Slots.{noPathLine}
-use Rattle.preparing.specs.Preparing.{routeOf, noRoute}
+use Rattle.market.specs.Books.{noRoute}
+use Rattle.preparing.specs.Preparing.{routeOf}
 use Rattle.preparing.proofs.SlotLaws.{FilledTo, none-filled, one-filled, every-filled}
 use Rattle.sheet_opening.proofs.slots.routes.Statement.{statement}
 use Rattle.sheet_opening.proofs.slots.routes.Tie as tie
