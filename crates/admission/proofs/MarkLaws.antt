@@ -21,7 +21,7 @@ pub marks-length : (limits used : List ℕ) (bids : List Bid) → length (marksF
 marks-length limits used [] = refl
 marks-length limits used (b ∷ bs) = ap suc (marks-length limits (usedAfter limits used b) bs)
 
--- the first `k` bids have their marks, `used` has the values admitted of them, and the rest of the bids have theirs to come
+-- the first `k` bids have their marks, `used` has the values admitted of them, and the rest of the bids get theirs later
 pub record MarkedTo (words limits marks used : List ℕ) (k at : ℕ) : Type 0 where
   pub walk : Walk pathLimit words k at
   pub front : List ℕ
@@ -43,7 +43,7 @@ none-marked words limits ok =
       below = refl;
     }
 
--- a value admitted by the test on numbers
+-- storing only if the bid is admitted is the same as storing the new amount or, if not, the old one
 used-by : (t : Bool) (used : List ℕ) (i total : ℕ) → cond t (set used i total) used ≡ set used i (cond t total (getD used i 0))
 used-by true used i total = refl
 used-by false used i total = sym (set-getD used i 0)
@@ -107,6 +107,6 @@ module _ (words limits marks used : List ℕ) (k at : ℕ) (m : MarkedTo words l
         subst (λ (b : ℕ). MarkedTo words limits (marks-with b value) (used-with b value) (k + 1) (bidEnd words at)) (sym eb)
         (subst (λ (v : ℕ). MarkedTo words limits (marks-with (bid .bidder) v) (used-with (bid .bidder) v) (k + 1) (bidEnd words at)) (sym ev) exactly)
 
-    -- and its value added to those admitted fits
+    -- and the values admitted so far are within the top limit
     pub total-within : (bidder : ℕ) → getD used bidder 0 ≤ biddingLimitTop
     total-within bidder = leb-true (getD used bidder 0) biddingLimitTop (every-at-any withinTop used bidder 0 (m .below) refl)

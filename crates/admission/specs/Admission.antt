@@ -27,7 +27,8 @@ biddingLimits b = map biddingLimit (b .bidders)
 abbrev pub withinTop : ℕ → Bool
 withinTop limit = leb limit biddingLimitTop
 
--- "its bid value .. plus the bidder's already admitted values is at most the limit"; `used` has the values admitted so far, by bidder
+-- "its bid value .. plus the bidder's already admitted values is at most the limit"; `used` has the values admitted so far, by
+-- bidder
 abbrev pub admits : List ℕ → List ℕ → Bid → Bool
 admits limits used b = leb (getD used (b .bidder) 0 + bidValue b) (getD limits (b .bidder) 0)
 

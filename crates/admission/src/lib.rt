@@ -47,7 +47,7 @@ pub fn limits_of(bidders: [Bidder; Engine::BIDDERS]) -> [u64; Engine::BIDDERS]
     limits
 }
 
-// Whether the values admitted with one more are within the limit.
+// The mark of a bid: admitted if `total`, the bidder's admitted values with this one, is within the limit.
 fn mark_of(total: u64, limit: u64) -> u32
     ensures { λ r. ⌜ r ≡ cond (leb total limit) admitted over ⌝ }
 {

@@ -7,7 +7,7 @@ use native.Mathlib.Omega.{arith}
 use lib.ListN.{length, getD, take, drop, set}
 use lib.Seq.{length-take-le, take-all, take-suc, drop-cons, append-snoc, set-at}
 
--- the next word is written
+-- after the next write the list has one more amount and one old word less
 module _ (amounts before : List ℕ) (i : ℕ) where
   pub write-next : i < length amounts → i < length before → set (take i amounts ++ drop i before) i (getD amounts i 0) ≡ take (i + 1) amounts ++ drop (i + 1) before
   write-next p q =
@@ -16,7 +16,7 @@ module _ (amounts before : List ℕ) (i : ℕ) where
       ∙ sym (append-snoc (take i amounts) (getD amounts i 0) (drop (suc i) before))
       ∙ rw (add-one, take-suc amounts i 0 p)
 
-  -- and at the end all are
+  -- at the end all amounts are written
   pub all-written : (n : ℕ) → length amounts ≡ n → n ≤ i → i ≤ n → take i amounts ++ drop i before ≡ amounts ++ drop n before
   all-written n long p q =
       let end : i ≡ n = omega arith in

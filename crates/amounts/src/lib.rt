@@ -1,4 +1,4 @@
-// The amounts of the participants, written to the list that is lent for them.
+// Writes the amounts of the participants to the list that is lent for them.
 use market::engine::Engine;
 ghost use mathlib.Core.Path.{_≡_};
 ghost use mathlib.Core.List.{_++_};
@@ -6,7 +6,7 @@ ghost use Prim.Native.Nat.{_≤_};
 ghost use lib.ListN.{length, drop};
 ghost use Rattle.market.specs.Limits.{bidderLimit};
 
-// Writes the amounts to the front of the lent list; words past them stay.
+// Writes the amounts to the front of the lent list; the words after them stay as they are.
 pub fn write_amounts(amounts: [u64; Engine::BIDDERS], lent: &mut [u64])
     requires { ⌜ bidderLimit ≤ length (now lent) ⌝ }
     ensures { λ _. ⌜ now (lent .exit) ≡ amounts ++ drop bidderLimit (now (lent .entry)) ⌝ }

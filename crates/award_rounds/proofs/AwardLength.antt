@@ -40,7 +40,7 @@ line-size f (g ∷ fs) = omega (arith, length-append f (space ∷ line (g ∷ fs
 
 -- ---- A round
 
--- what is known of an answered bid, by its number, and of a path
+-- how large the numbers of an answered bid are, and those of a path
 pub record BidSizes (answers : List ℕ) (bid : ℕ) (b : Bid) : Type 0 where
   pub place : bid < bidderLimit * pathLimit
   pub bidder : b .bidder < bidderLimit
@@ -211,7 +211,7 @@ title-size : length titleLine ≤ 28
 unfolding decimal
 title-size = omega arith
 
--- an award sheet of at most two rounds, each of at most 512 bids, of a sound book with at most 32 bidders listed
+-- an award sheet fits if it has at most two rounds, each of at most 512 bids, and a sound book with at most 32 bidders listed
 pub award-fits : (rounds : List RoundMade) (b : Book) (listed : List ℕ) → length rounds ≤ 2 → EachRound (b .«path_count») rounds → soundBook b ≡ true → length listed ≤ bidderLimit → every isBidder listed ≡ true → length (awardText rounds b listed) ≤ awardSheetBytes
 unfolding awardText
 award-fits rounds b listed two each sound few all =
@@ -235,7 +235,7 @@ award-fits rounds b listed two each sound few all =
 
 -- ---- Refusals
 
--- so do the lines that stand in its place
+-- the lines that take the place of an award sheet fit too
 pub refused-fits : (number : ℕ) → number < 2 ^ 32 → length (refusedText number) ≤ awardSheetBytes
 refused-fits number small =
     omega (arith, count-size refusedWord 10 number (omega arith) (omega arith) (omega (arith, small)))

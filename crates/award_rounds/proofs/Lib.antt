@@ -1,3 +1,3 @@
--- The pieces of an award sheet, and how long it is at most.
+-- The pieces of an award sheet, and how long it can be.
 pub mod AwardLength
 pub mod Pieces

@@ -1,4 +1,4 @@
--- An award sheet is its title, its rounds and its bidders, one behind another.
+-- An award sheet is its title, its rounds and its bidders, one after another.
 use mathlib.Core.Path.{_≡_, _∙_, ap}
 use mathlib.Core.List.{List, [], _∷_, _++_, append-assoc, append-nil}
 use Prim.Native.Nat.{ℕ, _+_, _≤_}

@@ -12,7 +12,7 @@ use Rattle.round_lines.specs.RoundLines.{RoundMade}
 abbrev pub made : List ℕ → List ℕ → List ℕ → RoundMade
 made bids answers results = record { bids = bidsOf bids; answers = answers; results = results }
 
--- what an answered round's lists are
+-- what holds of the lists of an answered round
 pub record Answered (bids answers results : List ℕ) : Type 0 where
   pub short : length bids ≤ bidListWords
   pub sound : soundList pathLimit bids ≡ true

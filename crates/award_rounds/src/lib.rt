@@ -1,4 +1,4 @@
-// The whole award sheet, of an auction of one round and of one of two, and the line that stands in its place.
+// The whole award sheet, for an auction of one round and for one of two rounds, and the line that takes its place.
 pub mod refusals;
 
 use award_sheet::bidder_lines;
@@ -15,8 +15,8 @@ ghost use Rattle.text.specs.Put.{putAt};
 ghost use Rattle.award_sheet.specs.AwardSheet.{isBidder, roundsText, awardText};
 ghost use Rattle.award_rounds.specs.Rounds.{made, Answered};
 
-// The award sheet of one round, at the front of the buffer: the round's bids and answers, and the book after it with the bidders
-// listed.
+// Writes the award sheet of one round at the front of the buffer, from the round's bids and answers, and from the book after it
+// with the bidders listed.
 pub fn put_one(
     out: &mut [u8],
     book: Book,
@@ -38,7 +38,7 @@ pub fn put_one(
     bidder_lines::put_bidders(out, end, book, listed)
 }
 
-// Two rounds of an auction, one behind the other from a place on.
+// Writes two rounds of an auction, one after the other, from a place on.
 fn put_rounds(
     out: &mut [u8],
     at: usize,
@@ -61,7 +61,7 @@ fn put_rounds(
     round_lines::put_round(out, next, later_bids, later_answers, later_results, paths)
 }
 
-// The award sheet of two rounds, at the front of the buffer.
+// Writes the award sheet of two rounds at the front of the buffer.
 pub fn put_two(
     out: &mut [u8],
     book: Book,

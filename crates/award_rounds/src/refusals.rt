@@ -1,4 +1,4 @@
-// The line that stands in the place of an award sheet, in a buffer that has room for one.
+// The line that takes the place of an award sheet, in a buffer that has room for an award sheet.
 ghost use mathlib.Core.Path.{_≡_};
 ghost use Prim.Native.Nat.{_≤_};
 ghost use lib.ListN.{length};
@@ -7,7 +7,7 @@ ghost use Rattle.text.specs.Put.{putAt};
 ghost use Rattle.market.specs.Answers.{formRefusal};
 ghost use Rattle.award_sheet.specs.AwardSheet.{refusedLine, refusedText};
 
-// A refusal's number.
+// Writes a refusal's number.
 pub fn refused(out: &mut [u8], number: u32) -> usize
     requires { ⌜ awardSheetBytes ≤ length (now out) ⌝ }
     ensures place { λ r. ⌜ r ≡ length (refusedText number) ⌝ }
@@ -16,7 +16,7 @@ pub fn refused(out: &mut [u8], number: u32) -> usize
     award_sheet::refusals::put_refused(out, number)
 }
 
-// The first faulty line of a sheet.
+// Writes the number of the first faulty line of a sheet.
 pub fn faulty(out: &mut [u8], line: u32) -> usize
     requires { ⌜ awardSheetBytes ≤ length (now out) ⌝ }
     ensures place { λ r. ⌜ r ≡ length (refusedLine formRefusal line) ⌝ }

@@ -19,7 +19,7 @@ use Rattle.award_sheet.specs.Phrases as words
 abbrev pub titleLine : List ℕ
 titleLine = line (words.titleWord ∷ words.releaseWord ∷ decimal release ∷ words.rulesWord ∷ decimal ruleEdition ∷ [])
 
--- and how many rounds there are
+-- the title line, and how many rounds there are
 abbrev pub titleText : ℕ → List ℕ
 titleText rounds = titleLine ++ countLine words.roundsWord rounds
 
@@ -45,11 +45,11 @@ abbrev pub bidderLines : Book → List ℕ → List ℕ
 bidderLines b [] = []
 bidderLines b (number ∷ numbers) = bidderLine number (bidderOf b number) ++ bidderLines b numbers
 
--- each after their count
+-- how many bidders are listed, and their lines
 abbrev pub biddersText : Book → List ℕ → List ℕ
 biddersText b listed = countLine (partWord Bidders) (length listed) ++ bidderLines b listed
 
--- ---- The sheet, of these rounds, and of the book after them with the bidders listed
+-- ---- The sheet of these rounds, with the book after them and the bidders listed
 
 unfoldable pub awardText : List RoundMade → Book → List ℕ → List ℕ
 awardText rounds b listed =

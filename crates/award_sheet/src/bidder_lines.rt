@@ -9,7 +9,7 @@ ghost use Rattle.market.specs.Books.{every};
 ghost use Rattle.text.specs.Put.{putAt};
 ghost use Rattle.award_sheet.specs.AwardSheet.{isBidder, bidderLine, bidderLines, biddersText};
 
-// The line of a bidder: number, cash, applied, letter, hold, owed.
+// Writes the line of a bidder: number, cash, applied, letter, hold, owed.
 fn put_bidder_line(out: &mut [u8], at: usize, number: u32, bidder: Bidder) -> usize
     requires { ⌜ at + length (bidderLine number bidder) ≤ length (now out) ⌝ }
     ensures place { λ r. ⌜ r ≡ at + length (bidderLine number bidder) ⌝ }
@@ -24,7 +24,7 @@ fn put_bidder_line(out: &mut [u8], at: usize, number: u32, bidder: Bidder) -> us
     writing::put_numbers(out, at, &row, fields::NEWLINE)
 }
 
-// The lines of the bidders listed, in the list's order.
+// Writes the lines of the bidders listed, in the order of the list.
 fn put_bidder_lines(out: &mut [u8], at: usize, book: Book, listed: &[u32]) -> usize
     requires { ⌜ every isBidder (now listed) ≡ true ⌝ }
     requires { ⌜ at + length (bidderLines book (now listed)) ≤ length (now out) ⌝ }
@@ -39,7 +39,7 @@ fn put_bidder_lines(out: &mut [u8], at: usize, book: Book, listed: &[u32]) -> us
     end
 }
 
-// How many bidders are listed, and their lines.
+// Writes how many bidders are listed, and their lines.
 pub fn put_bidders(out: &mut [u8], at: usize, book: Book, listed: &[u32]) -> usize
     requires { ⌜ every isBidder (now listed) ≡ true ⌝ }
     requires { ⌜ at + length (biddersText book (now listed)) ≤ length (now out) ⌝ }

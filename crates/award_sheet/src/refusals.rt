@@ -1,4 +1,4 @@
-// The line that is printed where no award sheet is.
+// The line that is printed in the place of an award sheet.
 use market::answer::Refusal;
 ghost use mathlib.Core.Path.{_≡_};
 ghost use Prim.Native.Nat.{_≤_};
@@ -7,7 +7,7 @@ ghost use Rattle.text.specs.Put.{putAt};
 ghost use Rattle.market.specs.Answers.{formRefusal};
 ghost use Rattle.award_sheet.specs.AwardSheet.{refusedLine, refusedText};
 
-// A refusal's number, at the front of the buffer.
+// Writes a refusal's number, at the front of the buffer.
 pub fn put_refused(out: &mut [u8], number: u32) -> usize
     requires { ⌜ length (refusedText number) ≤ length (now out) ⌝ }
     ensures place { λ r. ⌜ r ≡ length (refusedText number) ⌝ }
@@ -16,7 +16,7 @@ pub fn put_refused(out: &mut [u8], number: u32) -> usize
     writing::put_count(out, 0, b"refused", number as u64)
 }
 
-// The refusal of a faulty sheet, with the number of its first faulty line, at the front of the buffer.
+// Writes the refusal of a faulty sheet, with the number of its first faulty line, at the front of the buffer.
 pub fn put_faulty(out: &mut [u8], line: u32) -> usize
     requires { ⌜ length (refusedLine formRefusal line) ≤ length (now out) ⌝ }
     ensures place { λ r. ⌜ r ≡ length (refusedLine formRefusal line) ⌝ }

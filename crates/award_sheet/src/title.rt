@@ -6,7 +6,7 @@ ghost use lib.ListN.{length};
 ghost use Rattle.text.specs.Put.{putAt};
 ghost use Rattle.award_sheet.specs.AwardSheet.{titleLine, titleText};
 
-// The title, with the engine's own release and rule edition.
+// Writes the title, with the engine's own release and rule edition.
 fn put_title_line(out: &mut [u8], at: usize) -> usize
     requires { ⌜ at + length titleLine ≤ length (now out) ⌝ }
     ensures place { λ r. ⌜ r ≡ at + length titleLine ⌝ }
@@ -17,7 +17,7 @@ fn put_title_line(out: &mut [u8], at: usize) -> usize
     writing::put_count(out, released, b"rules", Engine::RULES as u64)
 }
 
-// The title, and the number of rounds.
+// Writes the title, and the number of rounds.
 pub fn put_title(out: &mut [u8], at: usize, rounds: usize) -> usize
     requires { ⌜ at + length (titleText rounds) ≤ length (now out) ⌝ }
     ensures place { λ r. ⌜ r ≡ at + length (titleText rounds) ⌝ }

@@ -19,7 +19,7 @@ use Rattle.lots.specs.Packed.{placeIn, lotIn, fits}
 use Rattle.awarding.specs.Tables.{wonTable, soldTable, priceTable}
 use Rattle.awarding.proofs.TableLaws.{table-is, lower-none, lower-assoc}
 
--- the lots in the first words of the scratch
+-- the lots in the first `lots` words of the scratch
 abbrev pub lotsIn : List ℕ → List ℕ → ℕ → List Lot
 lotsIn words order lots = map (lotIn words) (take lots order)
 
@@ -52,7 +52,7 @@ and-cond : (s t : Bool) (n : ℕ) → cond s (cond t n 0) 0 ≡ cond (s && t) n 
 and-cond true t n = refl
 and-cond false t n = refl
 
--- the first `i` lots have taken: `left` is left, and each sum so far, with what the lots after them take, is the whole
+-- the first `i` lots have taken: `left` is left, and each sum so far plus what the later lots take is the whole sum
 pub record AwardedTo (words order : List ℕ) (lots : ℕ) (offered : List ℕ) (i : ℕ) (left won sold prices : List ℕ) : Type 0 where
   pub won-so : (k : ℕ) → wonBy k (walk offered (lotsIn words order lots)) ≡ getD won k 0 + wonBy k (walk left (drop i (lotsIn words order lots)))
   pub sold-so : (p : ℕ) → soldOn p (walk offered (lotsIn words order lots)) ≡ getD sold p 0 + soldOn p (walk left (drop i (lotsIn words order lots)))
@@ -120,7 +120,7 @@ module _ (words order : List ℕ) (lots : ℕ) (offered : List ℕ) (i : ℕ) (l
         ap (fits words) (sym (getD-take lots order i 0 inside))
         ∙ every-within (fits words) (take lots order) i 0 (omega (arith, length-take-le lots order room, inside)) fit
 
-    -- its pair stands in the list, and its bid can have an answer
+    -- its pair is inside the list, and its bid's number is below the limit
     pub pair-fits : placeIn word + pairWords ≤ length words
     pair-fits =
         leb-true (placeIn word + pairWords) (length words)

@@ -36,7 +36,7 @@ table-is l n f long same =
     ext-getD 0 l (below n f) (long ∙ sym (below-length n f))
     (λ i inside. same i (omega (arith, inside, long)) ∙ sym (below-at n f i (omega (arith, inside, long))))
 
--- the lower of a price and none is that price, and of two prices the least
+-- the lower of a price and none is that price, and of two prices the smaller one
 pub lower-none : (p : ℕ) → lower p 0 ≡ p
 lower-none p = go (eqb p 0) refl
   where
@@ -49,7 +49,7 @@ lower-both p q hp hq =
     ap (λ (t : Bool). cond t q (cond (eqb q 0) p (min p q))) (ne-eqb p 0 (λ e. let no : ⊥ = omega (arith, e) in no))
     ∙ ap (λ (t : Bool). cond t p (min p q)) (ne-eqb q 0 (λ e. let no : ⊥ = omega (arith, e) in no))
 
--- taking the lower of three goes either way
+-- the lower of three prices is the same whichever two are compared first
 pub lower-assoc : (p q r : ℕ) → lower (lower p q) r ≡ lower p (lower q r)
 lower-assoc p q r = go (eqb p 0) (eqb q 0) (eqb r 0) refl refl refl
   where

@@ -7,7 +7,7 @@ use lib.ListN.{getD}
 use Rattle.market.specs.Limits.{pathLimit, bidLimit}
 use Rattle.awards.specs.Awards.{Award, wonBy, soldOn, priceOn}
 
--- the values of a function at the numbers below another
+-- the values of a function at the numbers below `n`
 abbrev pub below : ℕ → (ℕ → ℕ) → List ℕ
 below zero f = []
 below (suc n) f = below n f ++ (f n ∷ [])
@@ -23,7 +23,7 @@ soldTable awards = below pathLimit (λ path. soldOn path awards)
 abbrev pub priceTable : List Award → List ℕ
 priceTable awards = below pathLimit (λ path. priceOn path awards)
 
--- "Each winning bid": how many of the first so many bids won any MW
+-- "Each winning bid": how many of the first `n` bids won any MW
 abbrev pub winnersIn : List ℕ → ℕ → ℕ
 winnersIn won zero = 0
 winnersIn won (suc n) = winnersIn won n + cond (ltb 0 (getD won n 0)) 1 0

@@ -58,8 +58,8 @@ fn price_at(taken: u32, price: u64) -> u64
     0
 }
 
-// The awards of laminations that stand in order in the first words of the scratch, where the round offers so much of each
-// path. `left` has what is left of each.
+// The awards of the laminations in the first `lots` words of `order`, which are in order. `offered` has what the round
+// offers of each path, and `left` what is left of it.
 fn award(words: &[u32], order: &[u32], lots: usize, offered: [u32; Engine::PATHS]) -> Awarded
     requires { ⌜ lots ≤ length (now order) ⌝ }
     requires { ⌜ lots ≤ scratchWords ⌝ }

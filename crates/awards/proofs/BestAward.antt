@@ -86,8 +86,8 @@ module _ (paths : ℕ) (offered : List ℕ) (bids : List Bid) (marks : List ℕ)
 
   -- ---- The award
 
-  -- "A rival award gives each lamination (pair) of an admitted bid 0 up to its own MW, no path more in all than the round offers": no
-  -- rival award has a higher total bid value than the round's
+  -- "A rival award gives each lamination (pair) of an admitted bid 0 up to its own MW, no path more in all than the round offers"
+  -- No rival award has a higher total bid value than the round's.
   pub best-award : (gives : Rival) → Legal offered (lotsOf bids marks) gives → rivalValue gives (lotsOf bids marks) ≤ totalValue (λ k. wonBy k (awardsOf offered bids marks)) bids
   best-award gives legal = omega (arith, best-walk gives legal, value-total)
 
@@ -116,7 +116,8 @@ module _ (paths : ℕ) (offered : List ℕ) (bids : List Bid) (marks : List ℕ)
       given-from won marks 0 0 bids
       (bids-map (Own (lotsOf bids marks) marks) (λ k b. eqb (getD marks k 0) admitted ≡ false → won k ≡ 0) 0 bids (λ k b from mine over. none-of k b mine over) own)
 
-  -- "the engine's fills a bid's laminations in order with its answered MW": filled so, the round's award is itself such an award
+  -- "the engine's fills a bid's laminations in order with its answered MW": filled in this way, the round's award is itself a
+  -- rival award
   pub award-legal : Legal offered (lotsOf bids marks) (filled (λ k. wonBy k (awardsOf offered bids marks)) bids)
   award-legal =
       record {
@@ -124,16 +125,16 @@ module _ (paths : ℕ) (offered : List ℕ) (bids : List Bid) (marks : List ℕ)
         shared = λ path. omega (arith, given .shared path, sold-is-won path, sold-within-offer path);
       }
 
-  -- "Bid value, in total or for what a bid won, sums price × MW given": and the round's total bid value is what it gives, so that
-  -- no rival's is above that of an award which is itself a rival
+  -- "Bid value, in total or for what a bid won, sums price × MW given": the value of that award is the round's
+  -- total bid value, so no rival award has a higher value than this one, which is itself a rival award
   pub award-value : rivalValue (filled (λ k. wonBy k (awardsOf offered bids marks)) bids) (lotsOf bids marks) ≡ totalValue (λ k. wonBy k (awardsOf offered bids marks)) bids
   award-value = given .value
 
   -- ---- Each bid
 
   module _ (k : ℕ) (d : Bid) (below : k < length bids) where
-    -- "fills a bid's laminations in order with its answered MW": the laminations of a bid took, each at its price, what filling them
-    -- in order with the MW that the bid won comes to
+    -- "fills a bid's laminations in order with its answered MW": the value of what a bid's laminations took is that of
+    -- filling them in order with the MW that the bid won
     pub fills-in-order : wonValue k (awardsOf offered bids marks) ≡ filledValue (wonBy k (awardsOf offered bids marks)) (getD bids k d .laminations)
     fills-in-order = value-of k (getD bids k d) (own-at k d below)
 
@@ -160,6 +161,6 @@ module _ (paths : ℕ) (offered : List ℕ) (bids : List Bid) (marks : List ℕ)
   pub no-award-no-price : (path : ℕ) → soldOn path (awardsOf offered bids marks) ≡ 0 → priceOn path (awardsOf offered bids marks) ≡ 0
   no-award-no-price path none = none-sold path (awardsOf offered bids marks) none
 
-  -- and with one there is
+  -- and with an award there is one
   pub award-has-price : (path : ℕ) → 0 < soldOn path (awardsOf offered bids marks) → 0 < priceOn path (awardsOf offered bids marks)
   award-has-price path sold = some-sold path (awardsOf offered bids marks) some-price sold

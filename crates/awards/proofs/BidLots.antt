@@ -15,7 +15,7 @@ abbrev pub ofBid : ℕ → List Lot → List Lot
 ofBid bid [] = []
 ofBid bid (l ∷ ls) = cond (eqb (l .bid) bid) (l ∷ ofBid bid ls) (ofBid bid ls)
 
--- ---- Of which lists
+-- ---- The lots of a bid in a list
 
 pub of-append : (bid : ℕ) (ls ms : List Lot) → ofBid bid (ls ++ ms) ≡ ofBid bid ls ++ ofBid bid ms
 of-append bid [] ms = refl
@@ -37,7 +37,7 @@ of-none bid (l ∷ ls) h =
     ap (λ (t : Bool). cond t (l ∷ ofBid bid ls) (ofBid bid ls)) (ne-eqb (l .bid) bid (h .0))
     ∙ of-none bid ls (h .1)
 
--- what holds of each of a bid's lots holds of each lot that is the bid's
+-- what holds of each lot in `ofBid` holds of each lot of the list that is of this bid
 pub each-of : (P : Lot → Type 0) (bid : ℕ) (ls : List Lot) → Each P (ofBid bid ls) → Each (λ l. l .bid ≡ bid → P l) ls
 each-of P bid [] h = tt
 each-of P bid (l ∷ ls) h = go (eqb (l .bid) bid) refl h (λ k. each-of P bid ls k)
@@ -48,7 +48,7 @@ each-of P bid (l ∷ ls) h = go (eqb (l .bid) bid) refl h (λ k. each-of P bid l
 
 -- ---- In order
 
--- one lot stands above another: where both are of one bid, its price is higher
+-- one lot is above another: if both are of one bid, its price is higher
 abbrev pub Above : Lot → Lot → Type 0
 Above l m = m .bid ≡ l .bid → m .price < l .price
 
@@ -71,7 +71,7 @@ insert-other bid l (m ∷ ms) ne = go (comesBefore m l) (insert-other bid l ms n
     go true h = ap (λ (ns : List Lot). cond (eqb (m .bid) bid) (m ∷ ns) ns) h
     go false h = ap (λ (t : Bool). cond t (l ∷ ofBid bid (m ∷ ms)) (ofBid bid (m ∷ ms))) (ne-eqb (l .bid) bid ne)
 
--- one of the bid's own, above the others
+-- a lot of this bid, above the others, put into its place
 insert-own : (bid : ℕ) (l : Lot) (ms : List Lot) → l .bid ≡ bid → Each (Above l) ms → ofBid bid (insert l ms) ≡ l ∷ ofBid bid ms
 insert-own bid l [] is above = ap (λ (t : Bool). cond t (l ∷ []) []) (eq-eqb (l .bid) bid is)
 insert-own bid l (m ∷ ms) is above = go (comesBefore m l) refl (insert-own bid l ms is (above .1))
@@ -85,7 +85,7 @@ insert-own bid l (m ∷ ms) is above = go (comesBefore m l) refl (insert-own bid
         ∙ ap (λ (t : Bool). l ∷ cond t (m ∷ ofBid bid ms) (ofBid bid ms)) (sym skips)
     go false e h = ap (λ (t : Bool). cond t (l ∷ ofBid bid (m ∷ ms)) (ofBid bid (m ∷ ms))) (eq-eqb (l .bid) bid is)
 
--- a bid's lots stand in their own order
+-- putting lots in order keeps the order of one bid's lots
 pub of-order : (bid : ℕ) (ls : List Lot) → Strict ls → ofBid bid (inOrder ls) ≡ ofBid bid ls
 of-order bid [] h = refl
 of-order bid (l ∷ ls) h = go (eqb (l .bid) bid) refl (of-order bid ls (h .1))

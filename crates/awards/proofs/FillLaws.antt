@@ -45,13 +45,13 @@ filledLots won [] = 0
 filledLots won (l ∷ ls) =
     l .price * min (l .quantity) won + filledLots (won - min (l .quantity) won) ls
 
--- that of a bid's laminations
+-- for the lots of a bid it is the value of its laminations, filled in order
 pub filled-in : (bid path place won : ℕ) (ls : List Lamination) → filledLots won (lotsIn bid path place ls) ≡ filledValue won ls
 filled-in bid path place won [] = refl
 filled-in bid path place won (l ∷ ls) =
     ap (l .price .0 * min (l .quantity .0) won +_) (filled-in bid path (place + pairWords) (won - min (l .quantity .0) won) ls)
 
--- nothing filled is worth nothing
+-- with nothing won the filled value is 0
 pub filled-none : (won : ℕ) (ls : List Lamination) → won ≡ 0 → filledValue won ls ≡ 0
 filled-none won [] h = refl
 filled-none won (l ∷ ls) h =
@@ -62,8 +62,8 @@ filled-none won (l ∷ ls) h =
       filled-none (won - min (l .quantity .0) won) ls (omega arith),
     )
 
--- What a bid won, lot by lot, is what filling its lots in order gives: a lot that takes less than its MW leaves nothing of its path,
--- so the bid's later lots take nothing.
+-- What a bid won, lot by lot, is what filling its lots in order gives: a lot that takes less than its MW leaves nothing of its
+-- path, so the bid's later lots take nothing.
 pub fills : (bid path : ℕ) (left : List ℕ) (lots : List Lot) → Each (λ l. l .bid ≡ bid → l .path ≡ path) lots → wonValue bid (walk left lots) ≡ filledLots (wonBy bid (walk left lots)) (ofBid bid lots)
 fills bid path left [] on = refl
 fills bid path left (l ∷ ls) on =

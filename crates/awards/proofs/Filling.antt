@@ -1,4 +1,4 @@
--- The award that fills each bid's laminations in order with the MW that it won, as one that gives each pair some MW.
+-- The award that fills each bid's laminations in order with the MW that it won, as a rival award: the MW of each pair.
 use mathlib.Core.Path.{_≡_, refl, sym, _∙_, ap, ap₂}
 use mathlib.Core.Bool.{Bool, true, false, cond}
 use mathlib.Core.List.{List, [], _∷_, _++_}
@@ -17,13 +17,13 @@ use Rattle.awards.proofs.RoundLots.{EachBid, nextAt}
 use Rattle.awards.proofs.FillLaws.{filledLots, filled-in, filled-none}
 use Rattle.awards.proofs.RoundLaws.{sumBids}
 
--- "fills a bid's laminations in order": what the pair at a place gets of the MW that its bid won, where the first pair stands at another
+-- "fills a bid's laminations in order": what the pair at `place` gets of the MW that its bid won; the first pair is at `first`
 abbrev pub filledAt : ℕ → ℕ → List Lamination → Rival
 filledAt won first [] place = 0
 filledAt won first (l ∷ ls) place =
     cond (eqb place first) (min (l .quantity .0) won) (filledAt (won - min (l .quantity .0) won) (first + pairWords) ls place)
 
--- the same over bids, the first of which has a number and stands at a place
+-- the same over bids from a number on, the first of which begins at a place
 abbrev pub filledFrom : (ℕ → ℕ) → ℕ → ℕ → List Bid → Rival
 filledFrom won bid at [] place = 0
 filledFrom won bid at (b ∷ bs) place =
@@ -40,7 +40,7 @@ Fills gives won [] = Unit {0}
 Fills gives won (l ∷ ls) =
     (gives (l .place) ≡ min (l .quantity) won) × Fills gives (won - min (l .quantity) won) ls
 
--- so does one that gives the same to each of them
+-- an award that gives the same to each lot fills them too
 fills-alike : (gives other : Rival) (won : ℕ) (ls : List Lot) → Each (λ l. other (l .place) ≡ gives (l .place)) ls → Fills gives won ls → Fills other won ls
 fills-alike gives other won [] same h = tt
 fills-alike gives other won (l ∷ ls) same h =
@@ -70,7 +70,7 @@ fills-value gives won [] h = refl
 fills-value gives won (l ∷ ls) h =
     ap₂ _+_ (ap (l .price *_) (h .0)) (fills-value gives (won - min (l .quantity) won) ls (h .1))
 
--- ---- Where lots stand
+-- ---- Where the pairs of lots are
 
 record Within (from to : ℕ) (l : Lot) : Type 0 where
   low : from ≤ l .place
@@ -114,7 +114,7 @@ on-path bid path place (l ∷ ls) = (refl, on-path bid path (place + pairWords) 
 
 -- ---- All bids
 
--- what an award gives the lots of bids: to each its own MW at most, to each path what its bids won at most, and their bid value
+-- what an award gives the lots of bids: at most its own MW to each, at most what its bids won to each path, and their bid value
 pub record Given (won : ℕ → ℕ) (n : ℕ) (bs : List Bid) (lots : List Lot) (gives : Rival) : Type 0 where
   pub own : Each (λ l. gives (l .place) ≤ l .quantity) lots
   pub shared : (path : ℕ) → givenOn gives path lots ≤ sumBids (λ k b. cond (eqb (b .path) path) (won k) 0) n bs
@@ -124,7 +124,7 @@ sum-append : (f : Lot → ℕ) (ls ms : List Lot) → sumOf f (ls ++ ms) ≡ sum
 sum-append f [] ms = omega arith
 sum-append f (l ∷ ls) ms = omega (arith, sum-append f ls ms)
 
--- one that gives the same to each lot sums alike
+-- awards that give the same to each lot have the same sum
 sum-alike : (f : Lot → ℕ → ℕ) (gives other : Rival) (ls : List Lot) → Each (λ l. other (l .place) ≡ gives (l .place)) ls → sumOf (λ l. f l (other (l .place))) ls ≡ sumOf (λ l. f l (gives (l .place))) ls
 sum-alike f gives other [] same = refl
 sum-alike f gives other (l ∷ ls) same = ap₂ _+_ (ap (f l) (same .0)) (sum-alike f gives other ls (same .1))
@@ -156,7 +156,7 @@ own-alike : (gives other : Rival) (ls : List Lot) → Each (λ l. other (l .plac
 own-alike gives other [] same h = tt
 own-alike gives other (l ∷ ls) same h = (omega (arith, same .0, h .0), own-alike gives other ls (same .1) (h .1))
 
--- a bid's part with the later ones'
+-- a bid's part together with the later bids' parts
 joined : (won : ℕ → ℕ) (n : ℕ) (b : Bid) (bs : List Bid) (own others : List Lot) (gives later : Rival) → Each (λ l. gives (l .place) ≤ l .quantity) own × (((path : ℕ) → givenOn gives path own ≤ cond (eqb (b .path) path) (won n) 0) × (rivalValue gives own ≡ filledValue (won n) (b .laminations))) → Each (λ l. gives (l .place) ≡ later (l .place)) others → Given won (n + 1) bs others later → Given won n (b ∷ bs) (own ++ others) gives
 joined won n b bs own others gives later first same rest =
     record {
@@ -171,7 +171,7 @@ joined won n b bs own others gives later first same rest =
           omega (arith, all, after, first .1 .1, rest .value);
     }
 
--- and all bids'
+-- and the parts of all bids
 pub given-from : (won : ℕ → ℕ) (marks : List ℕ) (n at : ℕ) (bs : List Bid) → EachBid (λ k b. eqb (getD marks k 0) admitted ≡ false → won k ≡ 0) n bs → Given won n bs (lotsFrom n at bs marks) (filledFrom won n at bs)
 given-from won marks n at [] none = record { own = tt; shared = λ path. omega arith; value = refl }
 given-from won marks n at (b ∷ bs) none =

@@ -14,21 +14,21 @@ abbrev pub total : List ℕ → ℕ
 total [] = 0
 total (n ∷ ns) = n + total ns
 
--- so much taken of one path
+-- what is left when `taken` MW are taken of one path
 abbrev pub less : List ℕ → ℕ → ℕ → List ℕ
 less left path taken = set left path (getD left path 0 - taken)
 
--- that path has so much less; past the end of the list nothing is left and nothing can be taken
+-- that path has `taken` MW less; past the end of the list nothing is left and nothing can be taken
 pub less-there : (left : List ℕ) (path taken : ℕ) → getD (less left path taken) path 0 ≡ getD left path 0 - taken
 less-there [] path taken = let none : 0 ≡ 0 - taken = omega arith in none
 less-there (n ∷ left) zero taken = refl
 less-there (n ∷ left) (suc path) taken = less-there left path taken
 
--- and another has what it had
+-- and every other path has what it had
 pub less-other : (left : List ℕ) (path taken other : ℕ) → (other ≡ path → ⊥) → getD (less left path taken) other 0 ≡ getD left other 0
 less-other left path taken other ne = getD-set-other left path other (getD left path 0 - taken) 0 ne
 
--- what any path has, with what was taken of it
+-- what a path has left and what was taken of it make up what it had
 pub less-at : (left : List ℕ) (path taken other : ℕ) → taken ≤ getD left path 0 → cond (eqb path other) taken 0 + getD (less left path taken) other 0 ≡ getD left other 0
 less-at left path taken other within = go (eqb path other) refl
   where

@@ -1,4 +1,4 @@
--- Laws about a fact of each lot, and of each award.
+-- Laws about facts that hold of each lot, or of each award.
 use mathlib.Core.List.{List, [], _∷_, _++_}
 use Rattle.awards.specs.Awards.{Lot, Award}
 use Rattle.awards.specs.Rivals.{Each}

@@ -12,7 +12,7 @@ use Rattle.awards.proofs.Lots.{EachAward, award-map}
 
 -- ---- The lower of two prices
 
--- a price above 0 is not below it, and then it is above 0 too
+-- the lower of a price above 0 and any other is above 0, and at most that price
 lower-left : (p q : ℕ) → 0 < p → (0 < lower p q) × (lower p q ≤ p)
 lower-left p q = go (eqb p 0) (eqb q 0) refl refl
   where
@@ -77,7 +77,7 @@ none-sold path (a ∷ awards) h =
     go true false e k rest = rest
     go false t e k rest = rest
 
--- with one there is
+-- with an award there is one
 pub some-sold : (path : ℕ) (awards : List Award) → EachAward (λ a. 1 ≤ a .lot .price) awards → 0 < soldOn path awards → 0 < priceOn path awards
 some-sold path [] h sold = sold
 some-sold path (a ∷ awards) h sold =
@@ -94,7 +94,7 @@ some-sold path (a ∷ awards) h sold =
 abbrev pub wonValue : ℕ → List Award → ℕ
 wonValue bid awards = sumOf (λ (a : Award). cond (eqb (a .lot .bid) bid) (a .lot .price * a .taken) 0) awards
 
--- a price that no lot with MW of a path is below, for the MW of a bid on that path, comes to at most their bid value
+-- a price that is at most that of each lot with MW of a path, times the MW of a bid on that path, is at most their bid value
 won-at-least : (p bid path : ℕ) (awards : List Award) → EachAward (λ a. a .lot .bid ≡ bid → a .lot .path ≡ path) awards → EachAward (λ a. Took path a → p ≤ a .lot .price) awards → p * wonBy bid awards ≤ wonValue bid awards
 won-at-least p bid path [] on h = let none : p * 0 ≤ 0 = omega (arith, mul-zero p) in none
 won-at-least p bid path (a ∷ awards) on h =

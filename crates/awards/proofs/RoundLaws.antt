@@ -1,4 +1,4 @@
--- What each bid of a round won, and what it comes to over all bids.
+-- What each bid of a round won, and the sums of it over all bids.
 use mathlib.Core.Path.{_≡_, refl, sym, _∙_, ap, ap₂, subst}
 use mathlib.Core.Bool.{Bool, true, false, cond}
 use mathlib.Core.List.{List, [], _∷_}
@@ -35,7 +35,7 @@ module _ (lots : List Lot) (marks : List ℕ) (bid : ℕ) (b : Bid) (own : Own l
       each-walk (λ l. l .bid ≡ bid → l .path ≡ b .path) left (inOrder lots) (each-order (λ l. l .bid ≡ bid → l .path ≡ b .path) lots own-path)
 
   module _ (left : List ℕ) (strict : Strict lots) where
-    -- in order they are its lots
+    -- among the lots in order they have the same order
     own-order : ofBid bid (inOrder lots) ≡ lotsOfBid bid (own .at) b (getD marks bid 0)
     own-order = of-order bid lots strict ∙ own .are
 

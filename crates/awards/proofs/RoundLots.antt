@@ -1,4 +1,4 @@
--- The lots of a round's bids: which are whose, and what is known of them.
+-- The lots of a round's bids: which lot is of which bid, and what is known of each.
 use mathlib.Core.Path.{_≡_, refl, _∙_, ap, ap₂, subst}
 use mathlib.Core.Bool.{Bool, true, false, cond, not, _&&_}
 use mathlib.Core.List.{List, [], _∷_, _++_, append-nil}
@@ -97,7 +97,7 @@ pub record InRound (first next : ℕ) (l : Lot) : Type 0 where
   pub some : 1 ≤ l .price
   pub top : l .price ≤ priceLimit
 
--- where the bid after one stands
+-- where the bid after this one begins
 abbrev pub nextAt : ℕ → Bid → ℕ
 nextAt at b = at + headerWords + length (b .laminations) * pairWords
 

@@ -1,4 +1,4 @@
--- Lots that take in order of falling prices come to at least the bid value of any rival award.
+-- Lots that take in order of falling prices have at least the bid value of any rival award.
 use mathlib.Core.Path.{_≡_, refl, sym, _∙_, ap}
 use mathlib.Core.Bool.{Bool, true, false, cond}
 use mathlib.Core.List.{List, [], _∷_}
@@ -19,8 +19,8 @@ valueOf awards = sumOf (λ (a : Award). a .lot .price * a .taken) awards
 
 -- ---- One lot
 
--- One lot's part of the sum: `e` is what it takes and `r` what a rival gives it. What either has left is worth at most the lot's
--- price from here on, and was worth at most a higher one before.
+-- One lot's part of the sum: `e` is what it takes and `r` what a rival gives it. Each MW that either has left
+-- has at most the lot's price as its value from here on, and at most a higher price before.
 weigh : (p top e r value later left left′ rivals rivals′ : ℕ) → p ≤ top → left′ + e ≡ left → rivals′ + r ≡ rivals → left ≤ rivals → later + p * left′ ≤ value + p * rivals′ → (p * r + later) + top * left ≤ (p * e + value) + top * rivals
 weigh p top e r value later left left′ rivals rivals′ falls is isR most h =
     let d = top - p in
@@ -32,8 +32,8 @@ weigh p top e r value later left left′ rivals rivals′ falls is isR most h =
     let more : d * left ≤ d * rivals = mul-le-mul-left d most in
     omega (arith, pe, pr, te, tr, more, h)
 
--- A lot takes what it can, of what the lots before it left; a rival gives it some, of what it left itself. Then the rival still has
--- at least as much left of every path.
+-- A lot takes what it can, of what the lots before it left; a rival gives it some, of what it left itself. Then the rival
+-- still has at least as much left of every path.
 still-most : (left rivals : List ℕ) (l : Lot) (given : ℕ) → AtMost left rivals → given ≤ l .quantity → given ≤ getD rivals (l .path) 0 → AtMost (leftAfter left l) (less rivals (l .path) given)
 still-most left rivals l given most own there path =
     go (eqb (l .path) path) refl
@@ -54,8 +54,8 @@ given-on gives rivals l ls shared =
 
 -- ---- All lots
 
--- The bid value of what a rival gives, plus what the lots have left at any price not below theirs, is at most the value of what the
--- lots take, plus what the rival has left at that price.
+-- The bid value of what a rival gives, plus what the lots have left at any price not below theirs, is at most the value of
+-- what the lots take, plus what the rival has left at that price.
 pub at-least-rival : (gives : Rival) (top : ℕ) (left rivals : List ℕ) (lots : List Lot) → FallingFrom top lots → AtMost left rivals → Each (λ l. gives (l .place) ≤ l .quantity) lots → ((path : ℕ) → givenOn gives path lots ≤ getD rivals path 0) → rivalValue gives lots + top * total left ≤ valueOf (walk left lots) + top * total rivals
 at-least-rival gives top left rivals [] falls most own shared =
     let h = mul-le-mul-left top (total-most left rivals most) in
@@ -72,7 +72,7 @@ at-least-rival gives top left rivals (l ∷ ls) falls most own shared =
     (less-total left (l .path) (takenOf left l) (min-le-right (l .quantity) (getD left (l .path) 0)))
     (less-total rivals (l .path) given there) (total-most left rivals most) next
 
--- so lots in order of falling prices come to at least the bid value of any legal rival
+-- so lots in order of falling prices have at least the bid value of any legal rival
 pub best-in-order : (gives : Rival) (top : ℕ) (left : List ℕ) (lots : List Lot) → FallingFrom top lots → Legal left lots gives → rivalValue gives lots ≤ valueOf (walk left lots)
 best-in-order gives top left lots falls legal =
     omega (arith, at-least-rival gives top left left lots falls (λ path. omega arith) (legal .own) (legal .shared))

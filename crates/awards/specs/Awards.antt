@@ -11,7 +11,8 @@ use Rattle.bids.specs.declared.Lamination.{Lamination}
 
 -- ---- The laminations of admitted bids
 
--- a lamination that may win: the number of its bid in the list, the place of its pair among the list's words, its path, and the pair
+-- a lamination that may win: the number of its bid in the list, the place of its pair among the list's words, its path, and
+-- the pair
 pub record Lot : Type 0 where
   pub bid : ℕ
   pub place : ℕ
@@ -19,7 +20,7 @@ pub record Lot : Type 0 where
   pub price : ℕ
   pub quantity : ℕ
 
--- those of one bid, the first of whose pairs stands at a place
+-- those of one bid, the first of whose pairs is at a place
 abbrev pub lotsIn : ℕ → ℕ → ℕ → List Lamination → List Lot
 lotsIn bid path place [] = []
 lotsIn bid path place (l ∷ ls) =
@@ -31,7 +32,7 @@ abbrev pub lotsOfBid : ℕ → ℕ → Bid → ℕ → List Lot
 lotsOfBid bid at b mark =
     cond (eqb mark admitted) (lotsIn bid (b .path) (at + headerWords) (b .laminations)) []
 
--- those of bids, the first of which has a number and stands at a place
+-- those of bids from a number on, the first of which begins at a place
 abbrev pub lotsFrom : ℕ → ℕ → List Bid → List ℕ → List Lot
 lotsFrom bid at [] marks = []
 lotsFrom bid at (b ∷ bs) marks =
@@ -70,16 +71,16 @@ pub record Award : Type 0 where
   pub lot : Lot
   pub taken : ℕ
 
--- lots taking one after another
+-- the awards of lots that take one after another
 abbrev pub walk : List ℕ → List Lot → List Award
 walk left [] = []
 walk left (l ∷ ls) = record { lot = l; taken = takenOf left l } ∷ walk (leftAfter left l) ls
 
--- what the laminations of a round's bids take, where it offers so much of each path
+-- what the laminations of a round's bids take; `offered` has what the round offers of each path
 unfoldable pub awardsOf : List ℕ → List Bid → List ℕ → List Award
 awardsOf offered bids marks = walk offered (inOrder (lotsOf bids marks))
 
--- ---- What it comes to
+-- ---- What the awards come to
 
 -- a number of each element, summed
 abbrev pub sumOf : {A : Type 0} → (A → ℕ) → List A → ℕ

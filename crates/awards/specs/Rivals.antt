@@ -15,7 +15,7 @@ abbrev pub Each : (Lot → Type 0) → List Lot → Type 0
 Each holds [] = Unit {0}
 Each holds (l ∷ ls) = holds l × Each holds ls
 
--- a rival gives so much to the pair that stands at a place of the list
+-- a rival award: the MW that it gives to the pair at each place of the list
 abbrev pub Rival : Type 0
 Rival = ℕ → ℕ
 
@@ -32,7 +32,7 @@ pub record Legal (offered : List ℕ) (lots : List Lot) (gives : Rival) : Type 0
 abbrev pub rivalValue : Rival → List Lot → ℕ
 rivalValue gives lots = sumOf (λ (l : Lot). l .price * gives (l .place)) lots
 
--- "fills a bid's laminations in order with its answered MW": the bid value for so many MW won
+-- "fills a bid's laminations in order with its answered MW": the bid value of a bid that won `won` MW
 abbrev pub filledValue : ℕ → List Lamination → ℕ
 filledValue won [] = 0
 filledValue won (l ∷ ls) =

@@ -1,1 +1,1 @@
-// Awards: the order of laminations, what each takes, and what it comes to.
+// Awards: the order of laminations, what each takes, and what that makes for each bid and path.

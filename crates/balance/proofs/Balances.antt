@@ -13,7 +13,7 @@ use Rattle.market.proofs.Tests.{left-true}
 use Rattle.market.specs.Limits.{accountLimit}
 use Rattle.market.specs.Sound.{soundAccount}
 
--- the difference of two numbers is no larger than either
+-- the difference of two numbers up to `m` has a magnitude up to `m`
 difference-mag : (a b m : ℕ) → a ≤ m → b ≤ m → mag (subℕ a b) ≤ m
 difference-mag a b m p q = go (ltb a b)
   where
@@ -30,7 +30,7 @@ sum-fits (negsuc a) n h k =
     let at-most : a ≤ accountLimit - 1 = leb-true a (accountLimit - 1) (left-true (leb a (accountLimit - 1)) true h) in
     record { sfits = omega (arith, difference-mag n (suc a) accountLimit k (omega arith)) }
 
--- and so does what is left of the balance without the amount
+-- a sound balance less such an amount fits too
 pub difference-fits : (z : ℤ) (n : ℕ) → soundAccount z ≡ true → n ≤ accountLimit → SFits w64 (z -ℤ pos n)
 difference-fits (pos a) zero h k =
     let at-most : a ≤ accountLimit = leb-true a accountLimit h in
@@ -45,7 +45,7 @@ difference-fits (negsuc a) (suc n) h k =
     let at-most : a ≤ accountLimit - 1 = leb-true a (accountLimit - 1) (left-true (leb a (accountLimit - 1)) true h) in
     record { sfits = omega arith }
 
--- the other sign of a sound balance fits too
+-- the negative of a sound balance fits too
 pub opposite-fits : (z : ℤ) → soundAccount z ≡ true → SFits w64 (pos 0 -ℤ z)
 opposite-fits (pos zero) h = record { sfits = lit< tt }
 opposite-fits (pos (suc a)) h =
@@ -55,14 +55,14 @@ opposite-fits (negsuc a) h =
     let at-most : a ≤ accountLimit - 1 = leb-true a (accountLimit - 1) (left-true (leb a (accountLimit - 1)) true h) in
     record { sfits = omega arith }
 
--- a sound balance's magnitude is an amount
+-- the magnitude of a sound balance is at most the account's limit
 pub magnitude-within : (z : ℤ) → soundAccount z ≡ true → natAbs z ≤ accountLimit
 magnitude-within (pos a) h = leb-true a accountLimit h
 magnitude-within (negsuc a) h =
     let at-most : a ≤ accountLimit - 1 = leb-true a (accountLimit - 1) (left-true (leb a (accountLimit - 1)) true h) in
     omega arith
 
--- below 0 the other sign is not below 0, and of the same magnitude; from 0 on the balance is itself not below 0
+-- the negative of a balance below 0 is not below 0 and has the same magnitude; any other balance is itself not below 0
 pub opposite-above : (z : ℤ) → ltZ z (pos 0) ≡ true → T (nonNeg (pos 0 -ℤ z)) × (natAbs (pos 0 -ℤ z) ≡ natAbs z)
 opposite-above (pos a) h =
     let below : a < 0 = ltb-true a 0 h in

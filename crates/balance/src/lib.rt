@@ -31,7 +31,7 @@ pub fn sound(account: Balance) -> bool
     within_limit(account.0)
 }
 
-// A balance with an amount more.
+// A balance plus an amount.
 pub fn plus(account: Balance, amount: Cents) -> Balance
     requires { ⌜ soundAccount (account .0) ≡ true ⌝ }
     requires { ⌜ amount .0 ≤ accountLimit ⌝ }
@@ -48,7 +48,7 @@ fn difference(cents: i64, amount: u64) -> i64
     cents - (amount as i64)
 }
 
-// A balance with an amount less.
+// A balance minus an amount.
 pub fn minus(account: Balance, amount: Cents) -> Balance
     requires { ⌜ soundAccount (account .0) ≡ true ⌝ }
     requires { ⌜ amount .0 ≤ accountLimit ⌝ }

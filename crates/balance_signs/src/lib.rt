@@ -1,4 +1,4 @@
-// On which side of an amount or of 0 a signed balance stands, and how large it is without its sign.
+// How a signed balance compares with an amount and with 0, and how large it is without its sign.
 use market::units::Balance;
 use market::units::Cents;
 ghost use mathlib.Core.Path.{_≡_};

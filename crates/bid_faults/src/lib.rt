@@ -23,7 +23,7 @@ fn sound_lamination(lamination: Lamination) -> bool
         & (quantity.0 <= Engine::QUANTITY_LIMIT)
 }
 
-// Whether each of the pairs from a place on is sound and below the one before it.
+// Whether each of `count` pairs from word `at` on is sound, and its price below the one before it.
 fn sound_laminations(words: &[u32], at: usize, count: u32) -> bool
     requires { ⌜ at + count * pairWords ≤ length (now words) ⌝ }
     ensures { λ r. ⌜ r ≡ soundLaminations abovePrices (laminationsAt (now (words .entry)) at count) ⌝ }
@@ -40,7 +40,7 @@ fn sound_laminations(words: &[u32], at: usize, count: u32) -> bool
     true
 }
 
-// Whether the fields before the pairs are sound, where the book has so many paths.
+// Whether the fields before the pairs are sound, where the book has `paths` paths.
 fn sound_header(header: Header, paths: usize) -> bool
     ensures { λ r. ⌜ r ≡ soundHeader paths header ⌝ }
 {
@@ -70,7 +70,7 @@ fn sound_bid(words: &[u32], at: usize, paths: usize) -> bool
     sound_laminations(words, at + Engine::HEADER_WORDS, header.count)
 }
 
-// The number of a bidder and path, each pair of them having its own.
+// The number of a bidder and path: each such pair has its own.
 fn pair_of(bidder: u32, path: u32) -> usize
     requires { ⌜ bidder < bidderLimit ⌝ }
     ensures { λ r. ⌜ r ≡ bidder * pathLimit + path ⌝ }
@@ -78,7 +78,7 @@ fn pair_of(bidder: u32, path: u32) -> usize
     (bidder as usize) * Engine::PATHS + (path as usize)
 }
 
-// The refusal of a list of bids, where the book has so many paths; 0 where the list is read. `seen` has a mark for each
+// The refusal of a list of bids, where the book has `paths` paths; 0 where nothing is refused. `seen` has a mark for each
 // bidder and path that has a bid so far, and `stamp` is the latest bid's.
 pub fn refusal(words: &[u32], paths: usize) -> u32
     requires { ⌜ paths ≤ pathLimit ⌝ }

@@ -1,4 +1,4 @@
--- The places at which bid sections begin are those of the rules.
+-- The places found for the bid sections are those where the rules read them.
 use mathlib.Core.Path.{_≡_, sym, _∙_, ap}
 use mathlib.Core.List.{List}
 use Prim.Native.Nat.{ℕ, _-_, _≤_}
@@ -35,6 +35,6 @@ module _ (bytes : List ℕ) (found : Found) (p : PlacesAre bytes (titleUsed byte
       ∙ sym (drop-drop (sectionAt Bids (drop (found .first) bytes) .used) (found .first) bytes)
       ∙ ap (behindPart Bids) rounds-place
 
--- all that stands from a place on
+-- all the text from a place on
 pub rest-whole : (bytes : List ℕ) (n : ℕ) → take (length bytes - n) (drop n bytes) ≡ drop n bytes
 rest-whole bytes n = take-all (length bytes - n) (drop n bytes) (omega (arith, length-drop n bytes))

@@ -44,7 +44,7 @@ put-front : (before front : List ℕ) → putAt before 0 front ≡ front ++ drop
 put-front before front =
     ap (λ (n : ℕ). front ++ drop n before) (let same : 0 + length front ≡ length front = omega arith in same)
 
--- one word behind those that are put
+-- one word after those that are put
 put-behind : (before front : List ℕ) (n word : ℕ) → length front ≡ n → n < length before → set (putAt before 0 front) n word ≡ putAt before 0 (front ++ (word ∷ []))
 put-behind before front n word long inside =
     ap (λ (l : List ℕ). set l n word)

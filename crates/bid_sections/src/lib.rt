@@ -12,7 +12,7 @@ ghost use Rattle.sheets.specs.Reading.{partAt, behindPart, atRounds};
 ghost use Rattle.sheets.specs.Words.{wordOf, wordsOf};
 ghost use Rattle.text.specs.Put.{putAt};
 
-// The first bid section of a sheet that has the form, its count line with it.
+// The first bid section of a well-formed sheet, with its count line.
 pub fn first_bids(bytes: &[u8], found: Found) -> &[u8]
     requires { ⌜ PlacesAre (now bytes) (titleUsed (now bytes)) found ⌝ }
     ensures place { λ r. ⌜ now r ≡ take (found .second - found .first) (drop (found .first) (now (bytes .entry))) ⌝ }
@@ -23,7 +23,7 @@ pub fn first_bids(bytes: &[u8], found: Found) -> &[u8]
     &bytes[from..to]
 }
 
-// What stands behind it: the second bid section of a long auction.
+// What comes after it: the second bid section of a long auction.
 pub fn second_bids(bytes: &[u8], found: Found) -> &[u8]
     requires { ⌜ PlacesAre (now bytes) (titleUsed (now bytes)) found ⌝ }
     ensures place { λ r. ⌜ now r ≡ drop (found .second) (now (bytes .entry)) ⌝ }
@@ -33,7 +33,7 @@ pub fn second_bids(bytes: &[u8], found: Found) -> &[u8]
     &bytes[from..]
 }
 
-// A number as a word.
+// A number as a word: 0 if it does not fit.
 fn word_of(value: u64) -> u32
     ensures { λ r. ⌜ r ≡ wordOf value ⌝ }
 {
@@ -43,7 +43,7 @@ fn word_of(value: u64) -> u32
     0
 }
 
-// The words of a bid section, to the front of a list: how many they are.
+// Writes the words of a bid section to the front of a list, and returns how many there are.
 pub fn words_of(section: &[u8], out: &mut [u32]) -> usize
     requires { ⌜ length (now section) ≤ sheetBytes ⌝ }
     requires { ⌜ length (now section) ≤ length (now out) ⌝ }

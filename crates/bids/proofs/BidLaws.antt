@@ -1,4 +1,4 @@
--- Laws about bids in their words.
+-- Laws about bids as words of a list.
 use mathlib.Core.Path.{_≡_, refl, sym, _∙_, ap, ap₂}
 use mathlib.Core.Bool.{Bool, true, false, _&&_, and-false}
 use mathlib.Core.List.{List, _∷_}
@@ -14,7 +14,7 @@ use Rattle.bids.specs.Faults.{soundLamination, soundLaminations, abovePr
 use Rattle.bids.specs.declared.Header.{Header}
 use Rattle.bids.specs.declared.Lamination.{Lamination}
 
--- the pairs from one of them on: it, and those after it
+-- the pairs from pair `i` on are pair `i` and those after it
 pub laminations-next : (words : List ℕ) (at count i : ℕ) → i < count → laminationsAt words (at + i * pairWords) (count - i) ≡ laminationAt words (at + i * pairWords) ∷ laminationsAt words (at + (i + 1) * pairWords) (count - (i + 1))
 laminations-next words at count i below =
     let left : count - i ≡ suc (count - (i + 1)) = omega arith in
@@ -70,11 +70,11 @@ module _ (paths : ℕ) (words : List ℕ) (at : ℕ) where
   abbrev pub right : Bool
   right = wholeAt words at && soundBid paths (bidAt words at)
 
-  -- it is not where words are missing
+  -- it is not, if words are missing
   pub not-whole : length words < bidEnd words at → right ≡ false
   not-whole cut = ap (λ (t : Bool). t && soundBid paths (bidAt words at)) (lt-leb (bidEnd words at) (length words) cut)
 
-  -- and it fits the list where it is
+  -- if it is, the list has all its words
   pub fits-list : right ≡ true → bidEnd words at ≤ length words
   fits-list ok =
       leb-true (bidEnd words at) (length words) (left-true (wholeAt words at) (soundBid paths (bidAt words at)) ok)
@@ -93,7 +93,7 @@ module _ (paths : ℕ) (words : List ℕ) (at : ℕ) where
     pub cut-short : length words < pairsFrom at + h .count * pairWords → right ≡ false
     cut-short cut = not-whole (omega (arith, end-of))
 
-    -- nor where a field before the pairs is bad
+    -- nor if a field before the pairs is bad
     pub bad-header : soundHeader paths h ≡ false → right ≡ false
     bad-header bad =
         ap
@@ -101,7 +101,7 @@ module _ (paths : ℕ) (words : List ℕ) (at : ℕ) where
         (ap (soundHeader paths) header-of ∙ bad)
         ∙ and-false (wholeAt words at)
 
-    -- and else the pairs decide
+    -- and otherwise the pairs decide
     pub pairs-decide : soundHeader paths h ≡ true → pairsFrom at + h .count * pairWords ≤ length words → right ≡ soundLaminations abovePrices (bidAt words at .laminations)
     pairs-decide good fits =
         ap₂ (λ (s t : Bool). s && (t && soundLaminations abovePrices (bidAt words at .laminations)))

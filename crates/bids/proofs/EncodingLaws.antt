@@ -1,5 +1,5 @@
--- A list of words is read as bids exactly where it is the words of bids that a round takes, and reading and writing undo
--- each other.
+-- A list of words is not refused exactly if it encodes bids that a round takes, and reading and encoding undo each
+-- other.
 use mathlib.Core.Path.{_≡_, refl, sym, _∙_, ap, ap₂}
 use mathlib.Core.Bool.{Bool, true, false, cond, not, _&&_}
 use mathlib.Core.List.{List, [], _∷_, _++_}
@@ -23,7 +23,7 @@ use Rattle.bids.proofs.BidLaws.{right, fits-list, laminations-count}
 -- ---- What is read encodes back
 
 module _ (words : List ℕ) where
-  -- the pairs that are read at a place are the words there
+  -- the pairs that are read at a place encode to the words there
   pairs-back : (n at : ℕ) → at + n * pairWords ≤ length words → pairsEncoded (laminationsAt words at n) ++ drop (at + n * pairWords) words ≡ drop at words
   pairs-back zero at fits = ap (λ (p : ℕ). drop p words) (let same : at + 0 * pairWords ≡ at = omega arith in same)
   pairs-back (suc n) at fits =
@@ -39,7 +39,7 @@ module _ (words : List ℕ) where
       ∙ ap (getD words at 0 ∷_) (sym (drop-cons words (suc at) 0 (omega arith)))
       ∙ sym (drop-cons words at 0 (omega arith))
 
-  -- the header's words
+  -- and so does the header
   header-back : (at : ℕ) → at + headerWords ≤ length words → getD words at 0 ∷ getD words (at + 1) 0 ∷ getD words (at + 2) 0 ∷ getD words (at + 3) 0 ∷ drop (at + headerWords) words ≡ drop at words
   header-back at fits =
       let e1 : at + 1 ≡ suc at = omega arith in
@@ -53,7 +53,7 @@ module _ (words : List ℕ) where
       ∙ ap (getD words at 0 ∷_) (sym (drop-cons words (suc at) 0 (omega arith)))
       ∙ sym (drop-cons words at 0 (omega arith))
 
-  -- a whole bid is the words at its place
+  -- a whole bid that is read at a place encodes to the words there
   pub bid-back : (at : ℕ) → bidEnd words at ≤ length words → bidEncoded (bidAt words at) ++ drop (bidEnd words at) words ≡ drop at words
   bid-back at fits =
       ap (λ (n : ℕ). getD words at 0 ∷ getD words (at + 1) 0 ∷ getD words (at + 2) 0 ∷ n ∷ (pairsEncoded (bidAt words at .laminations) ++ drop (bidEnd words at) words))
@@ -62,7 +62,7 @@ module _ (words : List ℕ) where
       (pairs-back (headerAt words at .count) (pairsFrom at) fits)
       ∙ header-back at (omega arith)
 
--- what an answered test of the bid at a place says of it
+-- what is known of the bid at a place where none of its rows refuses it
 module _ (paths : ℕ) (words : List ℕ) (at : ℕ) (earlier : List Bid) where
   pub record RightAt : Type 0 where
     pub good : right paths words at ≡ true
@@ -86,7 +86,7 @@ module _ (paths : ℕ) (words : List ℕ) where
   abbrev bids-if : Bool → ℕ → ℕ → List Bid
   bids-if end more at = cond end [] (bidAt words at ∷ bidsFrom more words (bidEnd words at))
 
-  -- what is left to read from a place on, where nothing refuses it
+  -- the words from a place on, where nothing refuses them: they encode the bids read there, and a round takes these bids
   reads : (more at : ℕ) (earlier : List Bid) → at ≤ length words → length words ≤ more + at → firstOf (refusalsFrom more paths words at earlier) ≡ 0 → (encoded (bidsFrom more words at) ≡ drop at words) × (rightAfter paths earlier (bidsFrom more words at) ≡ true)
   reads zero at earlier within enough h = (sym (drop-of-length-le words {i = at} (omega arith)), refl)
   reads (suc more) at earlier within enough h =
@@ -105,7 +105,7 @@ module _ (paths : ℕ) (words : List ℕ) where
                 (after .1),
           )
 
-  -- a list that is not refused is the words of its bids, and a round takes these bids
+  -- a list that is not refused encodes its bids, and a round takes these bids
   pub encodes-back : firstOf (listRefusals paths words) ≡ 0 → encoded (bidsOf words) ≡ words
   encodes-back h = reads (length words) 0 [] (omega arith) (omega arith) h .0
 
@@ -114,7 +114,7 @@ module _ (paths : ℕ) (words : List ℕ) where
 
 -- ---- What is encoded is read
 
--- the words of pairs, read
+-- the words of pairs are read as these pairs
 pairs-read : (words rest : List ℕ) (ls : List Lamination) (at : ℕ) → drop at words ≡ pairsEncoded ls ++ rest → laminationsAt words at (length ls) ≡ ls
 pairs-read words rest [] at is = refl
 pairs-read words rest (l ∷ ls) at is =
@@ -124,14 +124,14 @@ pairs-read words rest (l ∷ ls) at is =
     ap₂ (λ (p q : ℕ). record { price = record { 0 = p }; quantity = record { 0 = q } } ∷ laminationsAt words (at + pairWords) (length ls)) zeroth first
     ∙ ap (l ∷_) (pairs-read words rest ls (at + pairWords) (sym (drop-drop pairWords at words) ∙ ap (drop pairWords) is))
 
--- so many words have pairs
+-- the number of words of some pairs
 pub pairs-length : (ls : List Lamination) → length (pairsEncoded ls) ≡ length ls * pairWords
 pairs-length [] = refl
 pairs-length (l ∷ ls) =
     let more = pairs-length ls in
     omega (arith, more)
 
--- the words of a bid, read
+-- the words of a bid are read as this bid
 module _ (words rest : List ℕ) (b : Bid) (at : ℕ) (is : drop at words ≡ bidEncoded b ++ rest) where
   word : (k : ℕ) → getD words (at + k) 0 ≡ getD (bidEncoded b ++ rest) k 0
   word k = sym (getD-drop at words k 0) ∙ ap (λ (l : List ℕ). getD l k 0) is
@@ -167,7 +167,7 @@ module _ (words rest : List ℕ) (b : Bid) (at : ℕ) (is : drop at words ≡ bi
       omega (arith, end-read, long, both, pairs-length (b .laminations))
 
 module _ (paths : ℕ) (words : List ℕ) where
-  -- what is left to read from a place on, where bids that a round takes stand
+  -- the words from a place on, where they encode bids that a round takes: nothing refuses them, and these bids are read
   reads-right : (bids : List Bid) (more at : ℕ) (earlier : List Bid) → drop at words ≡ encoded bids → at ≤ length words → length words ≤ more + at → rightAfter paths earlier bids ≡ true → (firstOf (refusalsFrom more paths words at earlier) ≡ 0) × (bidsFrom more words at ≡ bids)
   reads-right [] more at earlier is within enough h = go more
     where

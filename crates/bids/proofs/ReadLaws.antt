@@ -15,7 +15,7 @@ use Rattle.bids.specs.Faults.{hasBid, stampOf, bidRefusals, refusalsFrom
 use Rattle.bids.specs.declared.Header.{Header}
 use Rattle.bids.proofs.BidLaws.{right, header-sound, header-bounds, HeaderBounds}
 
--- so many marks, one for each bidder and path
+-- the number of marks, one for each bidder and path
 abbrev pub pairs : ℕ
 pairs = bidderLimit * pathLimit
 
@@ -124,7 +124,7 @@ module _ (paths : ℕ) (words : List ℕ) (at stamp : ℕ) (seen : List Bool) (t
         pub stamp-falls : h .stamp < stamp → firstOf (listRefusals paths words) ≡ 16
         stamp-falls fall = sound-here ∙ ap₂ (rows true) first (lt-ltb (h .stamp) stamp fall)
 
-        -- it is right, and the list is tested up to its end
+        -- it is right, and now the bids up to its end are tested
         pub bid-tested : stamp ≤ h .stamp → TestedBids paths words (bidEnd words at) (h .stamp) (set seen pair true)
         bid-tested rises =
             record {

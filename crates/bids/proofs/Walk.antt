@@ -15,7 +15,7 @@ use Rattle.bids.specs.Faults.{wholeAt, soundHeader, soundBid, soundLamin
 use Rattle.bids.proofs.BidLaws.{right, fits-list, header-sound, header-bounds, HeaderBounds}
 use Rattle.bids.proofs.EncodingLaws.{RightAt, right-at}
 
--- whether each bid from a place on, of at most so many, is whole and sound
+-- whether each bid from a place on is whole and sound, for no more bids than the second argument
 abbrev pub soundFrom : ℕ → ℕ → List ℕ → ℕ → Bool
 soundFrom paths zero words at = true
 soundFrom paths (suc more) words at =
@@ -37,7 +37,7 @@ right-more paths most words at le good =
     (le-leb (h .count) laminationLimit (b .few)))
     (right-true (soundHeader paths h) (soundLaminations abovePrices (bidAt words at .laminations)) sound))
 
--- it is in a list that is not refused
+-- each bid of a list that is not refused is whole and sound
 sound-after : (paths most more : ℕ) (words : List ℕ) (at : ℕ) (earlier : List Bid) → paths ≤ most → firstOf (refusalsFrom more paths words at earlier) ≡ 0 → soundFrom most more words at ≡ true
 sound-after paths most zero words at earlier le h = refl
 sound-after paths most (suc more) words at earlier le h =
@@ -52,7 +52,7 @@ sound-after paths most (suc more) words at earlier le h =
 pub list-sound : (paths most : ℕ) (words : List ℕ) → paths ≤ most → firstOf (listRefusals paths words) ≡ 0 → soundList most words ≡ true
 list-sound paths most words le h = sound-after paths most (length words) words 0 [] le h
 
--- `k` bids stand before a place, and those from there on are whole and sound
+-- there are `k` bids before a place, and those from there on are whole and sound
 pub record Walk (paths : ℕ) (words : List ℕ) (k at : ℕ) : Type 0 where
   pub more : ℕ
   pub within : at ≤ length words
@@ -129,14 +129,14 @@ module _ (paths : ℕ) (words : List ℕ) (k at : ℕ) (w : Walk paths words k a
     pub bid-right : right paths words at ≡ true
     bid-right = here .good
 
-    -- a list that a round takes has a place for it among the bids' answers
+    -- its number is below the limit of bids, since the list is short enough for a round
     pub bid-below : length words ≤ bidListWords → k < bidLimit
     bid-below short =
         let fits = fits-list paths words at bid-right in
         let some = right-bounds paths words at bid-right .some in
         omega (arith, fits, some, w .places)
 
-    -- and the walk goes on behind it
+    -- and the walk goes on after it
     pub walk-on : Walk paths words (k + 1) (bidEnd words at)
     walk-on =
         let fits = fits-list paths words at bid-right in
@@ -154,7 +154,7 @@ module _ (paths : ℕ) (words : List ℕ) (k at : ℕ) (w : Walk paths words k a
     unfolding walk-on here
     left-splits = here .bids
 
--- the bids from a place on take six words each at least
+-- the bids from a place on take at least six words each
 bids-span : (paths more : ℕ) (words : List ℕ) (at : ℕ) → soundFrom paths more words at ≡ true → at ≤ length words → length (bidsFrom more words at) * (headerWords + pairWords) + at ≤ length words
 bids-span paths zero words at ok within = omega arith
 bids-span paths (suc more) words at ok within =

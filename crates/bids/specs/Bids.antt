@@ -32,14 +32,14 @@ laminationsValue (l ∷ ls) = laminationValue l + laminationsValue ls
 abbrev pub bidValue : Bid → ℕ
 bidValue b = laminationsValue (b .laminations)
 
--- so much a pair bids at most, and a bid: "n is 1 to 20, price 1 to 10^8, MW 1 to 9,999"
+-- the most that a pair can bid, and the most that a bid can: "n is 1 to 20, price 1 to 10^8, MW 1 to 9,999"
 abbrev pub laminationValueLimit : ℕ
 laminationValueLimit = priceLimit * quantityLimit
 
 abbrev pub bidValueLimit : ℕ
 bidValueLimit = laminationLimit * laminationValueLimit
 
--- the word at a place, and 0 past the end of the list
+-- the word at a place (an index from 0), and 0 past the end of the list
 abbrev pub wordAt : List ℕ → ℕ → ℕ
 wordAt words i = getD words i 0
 
@@ -63,7 +63,7 @@ abbrev pub laminationsAt : List ℕ → ℕ → ℕ → List Lamination
 laminationsAt words at zero = []
 laminationsAt words at (suc n) = laminationAt words at ∷ laminationsAt words (at + pairWords) n
 
--- where the first pair of the bid at a place stands, and where the next bid does
+-- where the pairs of the bid at a place begin, and where the next bid begins
 abbrev pub pairsFrom : ℕ → ℕ
 pairsFrom at = at + headerWords
 
@@ -80,7 +80,7 @@ bidAt words at =
       laminations = laminationsAt words (pairsFrom at) (headerAt words at .count);
     }
 
--- the bids from a place on, at most so many: each stands where the one before it ends
+-- the bids from a place on, no more of them than the first argument: each begins where the one before it ends
 abbrev pub bidsFrom : ℕ → List ℕ → ℕ → List Bid
 bidsFrom zero words at = []
 bidsFrom (suc more) words at =

@@ -22,7 +22,7 @@ abbrev pub encoded : List Bid → List ℕ
 encoded [] = []
 encoded (b ∷ bs) = bidEncoded b ++ encoded bs
 
--- bids that a round takes after earlier ones, latest first: sound, one per bidder and path, no stamp below the one before
+-- whether a round takes bids after the `earlier` ones (latest first): each is sound, one per bidder and path, and no stamp falls
 abbrev pub rightAfter : ℕ → List Bid → List Bid → Bool
 rightAfter paths earlier [] = true
 rightAfter paths earlier (b ∷ bs) =

@@ -21,11 +21,11 @@ soundLaminations before [] = true
 soundLaminations before (l ∷ ls) =
     (soundLamination l && ltb (l .price .0) before) && soundLaminations (l .price .0) ls
 
--- no price stands before the first one, and any price is below this number
+-- there is no price before the first one: this number, above every price, is used instead
 abbrev pub abovePrices : ℕ
 abovePrices = priceLimit + 1
 
--- the fields before the pairs, where the book has so many paths: bidder "0 to 31", a path of the book, "n is 1 to 20"
+-- the fields before the pairs, where the book has `paths` paths: bidder "0 to 31", a path of the book, "n is 1 to 20"
 abbrev pub soundHeader : ℕ → Header → Bool
 soundHeader paths h =
     ltb (h .bidder) bidderLimit && ltb (h .path) paths && leb 1 (h .count) && leb (h .count) laminationLimit
@@ -43,12 +43,13 @@ abbrev pub hasBid : ℕ → ℕ → List Bid → Bool
 hasBid bidder path [] = false
 hasBid bidder path (b ∷ bs) = (eqb (b .bidder) bidder && eqb (b .path) path) || hasBid bidder path bs
 
--- "Stamps .. never fall along the list": the stamp of the latest of these bids, the latest standing first; 0 before the first bid
+-- "Stamps .. never fall along the list": the stamp of the latest of these bids (latest first); 0 before the first bid
 abbrev pub stampOf : List Bid → ℕ
 stampOf [] = 0
 stampOf (b ∷ bs) = b .stamp
 
--- "14 (its bidder included) before 15 before 16": the refusals of the bid at a place, after the earlier ones, latest first
+-- "14 (its bidder included) before 15 before 16": the refusals of the bid at a place; `earlier` has the bids before it, latest
+-- first
 abbrev pub bidRefusals : ℕ → List ℕ → ℕ → List Bid → List Row
 bidRefusals paths words at earlier =
     (not (wholeAt words at && soundBid paths (bidAt words at)) gives 14)
@@ -56,7 +57,8 @@ bidRefusals paths words at earlier =
     ∷ (ltb (bidAt words at .stamp) (stampOf earlier) gives 16)
     ∷ []
 
--- "the first bid at fault decides": the refusals of the bids from a place on, at most so many, bid by bid
+-- "the first bid at fault decides": the refusals of the bids from a place on, bid by bid, for no more bids than the first
+-- argument
 abbrev pub refusalsFrom : ℕ → ℕ → List ℕ → ℕ → List Bid → List Row
 refusalsFrom zero paths words at earlier = []
 refusalsFrom (suc more) paths words at earlier =

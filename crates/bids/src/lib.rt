@@ -1,4 +1,4 @@
-// The list of bids in its words: what a bid is, what it bids, and where the next one stands.
+// The bid list as words: what a bid is, its bid value, and where the next bid begins.
 use market::engine::Engine;
 use market::units::Cents;
 use market::units::Megawatts;
@@ -11,7 +11,7 @@ ghost use Rattle.market.specs.Limits.{laminationLimit, headerWords, pairWords};
 ghost use Rattle.bids.specs.Bids.{headerAt, laminationAt, laminationsAt, bidAt, bidEnd, laminationValue, laminationsValue, bidValue, laminationValueLimit, bidValueLimit};
 ghost use Rattle.bids.specs.Faults.{soundLamination, soundLaminations, abovePrices};
 
-// A pair of a bid: a price per megawatt for the whole term, and the megawatts bid for at it.
+// A pair of a bid: a price per megawatt for the whole term, and the megawatts bid for at that price.
 pub struct Lamination {
     pub price: Cents,
     pub quantity: Megawatts,
@@ -25,7 +25,7 @@ pub struct Header {
     pub count: u32,
 }
 
-// The header of the bid at a place.
+// The header of the bid that begins at word `at`.
 pub fn header_at(words: &[u32], at: usize) -> Header
     requires { ⌜ at + headerWords ≤ length (now words) ⌝ }
     ensures { λ r. ⌜ r ≡ headerAt (now (words .entry)) at ⌝ }
@@ -44,7 +44,7 @@ fn wide(x: u32) -> u64
     x as u64
 }
 
-// The pair at a place.
+// The pair that begins at word `at`.
 pub fn lamination_at(words: &[u32], at: usize) -> Lamination
     requires { ⌜ at + pairWords ≤ length (now words) ⌝ }
     ensures { λ r. ⌜ r ≡ laminationAt (now (words .entry)) at ⌝ }
@@ -55,14 +55,14 @@ pub fn lamination_at(words: &[u32], at: usize) -> Lamination
     }
 }
 
-// The words of so many pairs.
+// The number of words of `count` pairs.
 pub fn pair_words(count: u32) -> usize
     ensures { λ r. ⌜ r ≡ count * pairWords ⌝ }
 {
     (count as usize) * Engine::PAIR_WORDS
 }
 
-// What a pair bids in all.
+// The bid value of a pair.
 fn lamination_value(lamination: Lamination) -> Cents
     requires { ⌜ soundLamination lamination ≡ true ⌝ }
     ensures { λ r. ⌜ r ≡ cents (laminationValue lamination) ⌝ }
@@ -73,7 +73,7 @@ fn lamination_value(lamination: Lamination) -> Cents
     Cents(price.0 * wide(quantity.0))
 }
 
-// The bid value of so many pairs from a place on.
+// The bid value of `count` pairs, the first of which begins at word `at`.
 fn pairs_value(words: &[u32], at: usize, count: u32) -> Cents
     requires { ⌜ at + count * pairWords ≤ length (now words) ⌝ }
     requires { ⌜ count ≤ laminationLimit ⌝ }
@@ -90,7 +90,7 @@ fn pairs_value(words: &[u32], at: usize, count: u32) -> Cents
     Cents(sum)
 }
 
-// The bid value of the bid at a place.
+// The bid value of the bid that begins at word `at`.
 pub fn bid_value(words: &[u32], at: usize) -> Cents
     requires { ⌜ bidEnd (now words) at ≤ length (now words) ⌝ }
     requires { ⌜ headerAt (now words) at .count ≤ laminationLimit ⌝ }
@@ -102,7 +102,7 @@ pub fn bid_value(words: &[u32], at: usize) -> Cents
     pairs_value(words, at + Engine::HEADER_WORDS, header.count)
 }
 
-// Where the bid after the one at a place stands.
+// Where the bid after the one at `at` begins.
 pub fn bid_end(words: &[u32], at: usize) -> usize
     requires { ⌜ bidEnd (now words) at ≤ length (now words) ⌝ }
     ensures { λ r. ⌜ r ≡ bidEnd (now (words .entry)) at ⌝ }

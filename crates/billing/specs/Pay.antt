@@ -31,7 +31,7 @@ payRefusals b i amount =
     ∷ (not (soundAccount (accountPaid b i)) gives 31)
     ∷ []
 
--- 1 and 2 come before
+-- refusals 1 and 2 come first
 abbrev pub payTable : Book → List ℕ → ℕ → Cents → List Row
 payTable b words i amount = registerRefusals b words ++ payRefusals b i amount
 
@@ -46,7 +46,7 @@ bookPaid b i = withAccount (withBidder b i (paid (bidderOf b i))) (accountPaid b
 unfoldable pub pay : Book → List ℕ → ℕ → Cents → Outcome
 pay b words i amount = decided b (firstOf (payTable b words i amount)) (answered (bookPaid b i))
 
--- the register's words after it: "its entries are issued"
+-- the register's words after the call: "its entries are issued"
 unfoldable pub payWords : Book → List ℕ → ℕ → Cents → List ℕ
 payWords b words i amount =
     decidedList words (firstOf (payTable b words i amount)) (written words (map (issuedTo i) (countedEntries b words)))

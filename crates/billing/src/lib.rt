@@ -1,4 +1,4 @@
-// Pay: what a bidder owes after an auction, paid.
+// Pay: a bidder pays what it owes after an auction.
 mod pay_parts;
 
 use market::answer::Answer;

@@ -12,7 +12,7 @@ ghost use Rattle.market.specs.Limits.{bidderLimit};
 ghost use Rattle.market.specs.Sound.{soundBook};
 ghost use Rattle.billing.specs.Pay.{payRefusals, payTable, paid, bookPaid};
 
-// The refusals of pay after 1 and 2.
+// The first of pay's refusals after 1 and 2; 0 where there is none.
 fn own_refusal(book: Book, bidder: u32, amount: Cents) -> u32
     requires { ⌜ soundBook book ≡ true ⌝ }
     ensures { λ r. ⌜ r ≡ firstOf (payRefusals book bidder amount) ⌝ }
@@ -50,7 +50,7 @@ pub fn refusal(book: Book, words: &[u32], bidder: u32, amount: Cents) -> u32
     own_refusal(book, bidder, amount)
 }
 
-// A bidder that has paid.
+// A bidder after it has paid.
 fn paid_bidder(bidder: Bidder) -> Bidder
     ensures { λ r. ⌜ r ≡ paid bidder ⌝ }
 {
@@ -67,7 +67,7 @@ fn paid_bidder(bidder: Bidder) -> Bidder
     }
 }
 
-// A step that has fallen by one if above 0.
+// A step lowered by one if it is above 0.
 fn fallen(step: u32) -> u32
     ensures { λ r. ⌜ r ≡ step - 1 ⌝ }
 {
@@ -77,7 +77,7 @@ fn fallen(step: u32) -> u32
     step - 1
 }
 
-// The book with a bidder's payment.
+// The book after a bidder has paid.
 pub fn book_paid(book: Book, bidder: u32) -> Book
     requires { ⌜ soundBook book ≡ true ⌝ }
     requires { ⌜ bidder < bidderLimit ⌝ }

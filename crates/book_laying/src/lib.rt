@@ -1,4 +1,4 @@
-// A book laid in lent 64-bit words, as it is read from them.
+// A book written in lent 64-bit words, so that it is read back from them.
 use book_words::BIDDER_WORDS;
 use book_words::BIDDERS_FROM;
 use book_words::FRONT_WORDS;
@@ -129,7 +129,7 @@ fn lay_bidders(words: &mut [u64], bidders: [Bidder; Engine::BIDDERS])
     }
 }
 
-// A book's words, at the front of those lent. Every book fits its fields, and so is read back from its words.
+// A book's words, written at the front of those lent. Every book fits its fields, and so is read back from its words.
 pub fn lay_book(words: &mut [u64], book: Book)
     requires { ⌜ rules.bookSize ≤ length (now words) ⌝ }
     ensures words { λ r. ⌜ now (words .exit) ≡ putAt (now (words .entry)) 0 (rules.bookWords book) ⌝ }

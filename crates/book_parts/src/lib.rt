@@ -1,4 +1,4 @@
-// A book's bidder, and a book of which one part is another.
+// A book's bidder, and a book with one part replaced.
 use market::book::Bidder;
 use market::book::Book;
 use market::book::Path;
@@ -10,7 +10,7 @@ ghost use Prim.Native.Nat.{_<_};
 ghost use Rattle.market.specs.Books.{bidderOf, withBidder, withAccount, withEntries, withAuction};
 ghost use Rattle.market.specs.Limits.{bidderLimit};
 
-// The bidder of a number.
+// The bidder with a given number.
 pub fn bidder(book: Book, number: u32) -> Bidder
     requires { ⌜ number < bidderLimit ⌝ }
     ensures { λ r. ⌜ r ≡ bidderOf book number ⌝ }
@@ -19,7 +19,7 @@ pub fn bidder(book: Book, number: u32) -> Bidder
     book.bidders[at]
 }
 
-// The book with another bidder at a number.
+// The book with the bidder at a number replaced.
 pub fn with_bidder(book: Book, number: u32, bidder: Bidder) -> Book
     requires { ⌜ number < bidderLimit ⌝ }
     ensures { λ r. ⌜ r ≡ withBidder book number bidder ⌝ }
@@ -30,7 +30,7 @@ pub fn with_bidder(book: Book, number: u32, bidder: Bidder) -> Book
     next
 }
 
-// The book with another account.
+// The book with its account replaced.
 pub fn with_account(book: Book, account: Balance) -> Book
     ensures { λ r. ⌜ r ≡ withAccount book (account .0) ⌝ }
 {
@@ -39,7 +39,7 @@ pub fn with_account(book: Book, account: Balance) -> Book
     next
 }
 
-// The book with another count of the register's entries.
+// The book with its count of the register's entries replaced.
 pub fn with_entries(book: Book, entries: usize) -> Book
     ensures { λ r. ⌜ r ≡ withEntries book entries ⌝ }
 {
@@ -48,7 +48,7 @@ pub fn with_entries(book: Book, entries: usize) -> Book
     next
 }
 
-// The book with other paths and another stage.
+// The book with its paths and its stage replaced.
 pub fn with_auction(book: Book, paths: [Path; Engine::PATHS], stage: Stage) -> Book
     ensures { λ r. ⌜ r ≡ withAuction book paths stage ⌝ }
 {

@@ -1,2 +1,2 @@
--- Laws about words that hold a book.
+-- Laws about words that encode a book.
 pub mod StandLaws

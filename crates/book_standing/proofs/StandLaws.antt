@@ -1,4 +1,4 @@
--- Laws about words that hold a book, tested one by one and part by part.
+-- Laws about words that encode a book, tested one by one and part by part.
 use mathlib.Core.Path.{_≡_, refl, sym, _∙_, ap, ap₂}
 use mathlib.Core.Bool.{Bool, true, false, cond, _&&_, and-true, and-assoc}
 use mathlib.Core.List.{List, [], _∷_, _++_}
@@ -34,7 +34,7 @@ narrow-same n = go (ltb n (2 ^ 32)) refl
         let above : 2 ^ 32 ≤ n = ltb-false n (2 ^ 32) e in
         sym (ne-eqb n (narrow n) (λ same. omega arith))
 
--- 0 and 1 alone are the number of what they are read as
+-- only 0 and 1 are the number of what they are read as
 abbrev twoFold : ℕ → ℕ
 twoFold n = cond (eqb n 0) 0 1
 
@@ -60,7 +60,7 @@ kind-same n = two-same n ∙ ap (eqb n) (go (eqb n 0))
     go true = refl
     go false = refl
 
--- ---- Words one behind another
+-- ---- Words one after another
 
 same-append : (xs us ys vs : List ℕ) → length xs ≡ length ys → sameWords (xs ++ us) (ys ++ vs) ≡ (sameWords xs ys && sameWords us vs)
 same-append [] us [] vs e = refl
@@ -70,7 +70,7 @@ same-append (x ∷ xs) us (y ∷ ys) vs e =
     ap (eqb x y &&_) (same-append xs us ys vs (omega arith)) ∙ sym (and-assoc (eqb x y) (sameWords xs ys) (sameWords us vs))
 
 module _ (words : List ℕ) (at : ℕ) where
-  -- so many words, spelled out
+  -- `n` words from the place `at + k` on, spelled out
   abbrev spelled : ℕ → ℕ → List ℕ
   spelled k zero = []
   spelled k (suc n) = getD words (at + k) 0 ∷ spelled (suc k) n
@@ -131,10 +131,10 @@ module _ (words : List ℕ) (room : frontSize ≤ length words) where
       ap (eqb (at 2) 1 &&_) (ap₂ _&&_ k (ap₂ _&&_ r (ap₂ _&&_ f (l ∙ sym (and-true (eqb (at 6) (narrow (at 6))))))))
       ∙ sym (ap₂ sameWords stage-spelled (ap (λ (t : Bool). stageWords (cond t Idle opened)) (ne-eqb (at 2) 0 other)))
 
--- ---- Parts of one kind, one behind another
+-- ---- Parts of one kind, one after another
 
 module _ {X : Type 0} (wordsOf : X → List ℕ) (size : ℕ) (sized : (x : X) → length (wordsOf x) ≡ size) (words : List ℕ) (from : ℕ) (f : ℕ → X) where
-  -- the first so many are those that their words are read as
+  -- the words of the first `i` parts are those of the parts that they are read as
   abbrev pub StandTo : ℕ → Bool
   StandTo i = sameWords (take (i * size) (drop from words)) (each wordsOf (gathered f i))
 
@@ -172,7 +172,7 @@ module _ (words : List ℕ) (room : bookSize ≤ length words) where
   abbrev biddersStand : Bool
   biddersStand = StandTo bidderWords bidderSize (λ x. refl) words biddersFrom (bidderIn words) bidderLimit
 
-  -- the counts are read as they stand
+  -- the counts are read unchanged
   front-same : sameWords (take frontSize words) (frontWords b) ≡ stageStands
   unfolding bookIn
   front-same =

@@ -1,4 +1,4 @@
-// Whether lent 64-bit words hold a book: each word is one that a book lays there.
+// Whether lent 64-bit words encode a book: each word is one that some book has there.
 use book_words::BIDDER_WORDS;
 use book_words::BIDDERS_FROM;
 use book_words::FRONT_WORDS;
@@ -11,21 +11,21 @@ ghost use lib.ListN.{length, take, drop};
 ghost use Rattle.market.specs.Limits.{pathLimit, bidderLimit};
 ghost use Rattle.book_words.specs.BookWords as rules;
 
-// A word whose field has 32 bits.
+// Whether a word fits a field of 32 bits.
 fn is_narrow(word: u64) -> bool
     ensures { λ r. ⌜ r ≡ eqb word (rules.narrow word) ⌝ }
 {
     word < 4_294_967_296
 }
 
-// A word of a path's direction.
+// Whether a word is the number of a path's direction.
 fn is_direction(word: u64) -> bool
     ensures { λ r. ⌜ r ≡ eqb word (rules.directionNumber (rules.directionIn word)) ⌝ }
 {
     word <= 1
 }
 
-// A word of an auction's kind.
+// Whether a word is the number of an auction's kind.
 fn is_kind(word: u64) -> bool
     ensures { λ r. ⌜ r ≡ eqb word (rules.kindNumber (rules.kindIn word)) ⌝ }
 {
@@ -44,7 +44,7 @@ fn path_stands(words: &[u64], at: usize) -> bool
     direction & (zone & (offer & sold))
 }
 
-// The same of a bidder, of whose words the step alone has 32 bits.
+// The same for a bidder: of its words only the step has 32 bits.
 fn bidder_stands(words: &[u64], at: usize) -> bool
     requires { ⌜ at + rules.bidderSize ≤ length (now words) ⌝ }
     ensures { λ r. ⌜ r ≡ rules.sameWords (take rules.bidderSize (drop at (now (words .entry)))) (rules.bidderWords (rules.bidderAt (now (words .entry)) at)) ⌝ }
@@ -52,7 +52,7 @@ fn bidder_stands(words: &[u64], at: usize) -> bool
     is_narrow(words[at + 5])
 }
 
-// The words of the stage: all 0 where it is idle.
+// The same for the words of the stage, which are all 0 where it is idle.
 fn stage_stands(words: &[u64]) -> bool
     requires { ⌜ rules.frontSize ≤ length (now words) ⌝ }
     ensures { λ r. ⌜ r ≡ rules.sameWords (take 5 (drop 2 (now (words .entry)))) (rules.stageWords (rules.stageAt (now (words .entry)))) ⌝ }
@@ -91,7 +91,7 @@ fn bidders_stand(words: &[u64]) -> bool
     stand
 }
 
-// Whether the first words are those of the book that they are read as. The counts of paths and entries may be any.
+// Whether the first words are those of the book that they are read as. The counts of paths and entries may be any numbers.
 pub fn stand(words: &[u64]) -> bool
     requires { ⌜ rules.bookSize ≤ length (now words) ⌝ }
     ensures { λ r. ⌜ r ≡ rules.stands (now (words .entry)) ⌝ }

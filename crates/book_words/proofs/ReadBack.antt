@@ -1,4 +1,5 @@
--- A book laid in words is read back; the words of such a book stand; and words that stand are those of the book that they are read as.
+-- A book written in words is read back; its words encode a book; and words that encode a book are those of the book that they are
+-- read as.
 use mathlib.Core.Path.{_≡_, refl, sym, _∙_, ap, ap₂}
 use mathlib.Core.Bool.{true, false, _&&_, false≢true}
 use mathlib.Core.List.{List, [], _∷_, _++_, append-assoc}
@@ -41,7 +42,7 @@ kind-back Long = refl
 
 -- ---- Slots
 
--- what is gathered is a list, where each element is the one there
+-- where a function gives the element at each place of a list, what it gathers is the list
 gathered-take : {X : Type 0} (f : ℕ → X) (xs : List X) (d : X) (n : ℕ) → n ≤ length xs → ((i : ℕ) → i < n → f i ≡ getD xs i d) → gathered f n ≡ take n xs
 gathered-take f xs d zero within is = refl
 gathered-take f xs d (suc n) within is =
@@ -53,7 +54,7 @@ gathered-is f xs d n long is =
     gathered-take f xs d n (omega arith) is ∙ ap (λ (k : ℕ). take k xs) (sym long) ∙ take-length xs
 
 module _ {X : Type 0} (words : X → List ℕ) (size : ℕ) (sized : (x : X) → length (words x) ≡ size) (d : X) (k : ℕ) (below : k < size) where
-  -- where the words of an element lie
+  -- where the words of an element are
   each-at : (xs : List X) (rest : List ℕ) (i : ℕ) → i < length xs → getD (each words xs ++ rest) (i * size + k) 0 ≡ getD (words (getD xs i d)) k 0
   each-at [] rest i h = absurd (let no-place : ⊥ = omega arith in no-place)
   each-at (x ∷ xs) rest zero h =
@@ -66,7 +67,7 @@ module _ {X : Type 0} (words : X → List ℕ) (size : ℕ) (sized : (x : X) →
       ∙ getD-append-add (words x) (each words xs ++ rest) (i * size + k) 0
       ∙ each-at xs rest i (omega arith)
 
-  -- behind others
+  -- the same after other words
   part-at : (front : List ℕ) (n : ℕ) → length front ≡ n → (xs : List X) (rest : List ℕ) (i m : ℕ) → m ≡ n + i * size + k → i < length xs → getD ((front ++ each words xs) ++ rest) m 0 ≡ getD (words (getD xs i d)) k 0
   part-at front n long xs rest i m place h =
       ap₂ (λ (l : List ℕ) (j : ℕ). getD l j 0) (append-assoc front (each words xs) rest)
@@ -158,7 +159,7 @@ module _ (b : Book) (fits : FitsBook b) (words : List ℕ) where
       ap stageAt (behind-paths ∙ append-assoc (frontWords b) (each pathWords (b .paths)) (each bidderWords (b .bidders) ++ past))
       ∙ stage-of (b .«path_count») (b .entries) (b .stage) (each pathWords (b .paths) ++ (each bidderWords (b .bidders) ++ past)) (fits .stage)
 
-  -- the book laid is read back, with any account
+  -- the book that was written is read back, with any account
   pub read-with : (account : ℤ) → bookIn laid account ≡ withAccount b account
   unfolding bookWords bookIn
   read-with account =
@@ -173,11 +174,11 @@ module _ (b : Book) (fits : FitsBook b) (words : List ℕ) where
         stage = stage-back j;
       }
 
-  -- and whole, with its own
+  -- the same with its own account: the book itself is read back
   pub read-back : bookIn laid (b .account .0) ≡ b
   read-back = read-with (b .account .0)
 
--- ---- Words that stand
+-- ---- Words that encode a book
 
 pub same-self : (xs : List ℕ) → sameWords xs xs ≡ true
 same-self [] = refl
@@ -195,7 +196,7 @@ pub words-account : (b : Book) (account : ℤ) → bookWords (withAccount b acco
 unfolding bookWords
 words-account b account = refl
 
--- the words of a book that they can hold stand, wherever they are laid
+-- where a book fits its fields, its words encode a book, over whatever words they are written
 pub laid-stands : (b : Book) → FitsBook b → (words : List ℕ) → stands (putAt words 0 (bookWords b)) ≡ true
 unfolding stands
 laid-stands b fits words =
@@ -204,7 +205,7 @@ laid-stands b fits words =
     (ap bookWords (read-with b fits words (pos 0)) ∙ words-account b (pos 0))
     ∙ same-self (bookWords b)
 
--- the book that standing words are read as, laid in them again, changes nothing
+-- where words encode a book, writing that book over them again changes nothing
 pub stands-laid : (words : List ℕ) (account : ℤ) → bookSize ≤ length words → stands words ≡ true → putAt words 0 (bookWords (bookIn words account)) ≡ words
 unfolding stands bookIn bookWords
 stands-laid words account room h =
@@ -215,7 +216,7 @@ stands-laid words account room h =
     ∙ ap (λ (n : ℕ). take bookSize words ++ drop n words) long
     ∙ take-append-drop bookSize words
 
--- as many zeros stand for the book that has no path
+-- as many zeros as a book has words encode the book that has no path
 pub zeros-words : bookWords noBook ≡ zeros bookSize
 unfolding bookWords noBook
 zeros-words = refl

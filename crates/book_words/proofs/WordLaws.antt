@@ -1,4 +1,4 @@
--- Laws about slots that a loop gathers from words, about words that it lays one behind another, and about the words of a book.
+-- Laws about slots that a loop gathers from words, about words that it writes one after another, and about the words of a book.
 use mathlib.Core.Path.{_≡_, refl, sym, _∙_, ap, ap₂}
 use mathlib.Core.List.{List, [], _∷_, _++_, append-assoc, append-nil}
 use Prim.Native.Nat.{ℕ, zero, suc, _+_, _*_, _-_, _≤_, _<_}
@@ -40,7 +40,7 @@ module _ {X : Type 0} (f : ℕ → X) where
         ap₂ (λ (k m : ℕ). gathered f k ++ replicate m blank) end (let none : n - i ≡ 0 = omega arith in none)
         ∙ append-nil (gathered f n)
 
--- ---- The words of each element of a list, laid one behind another
+-- ---- The words of each element of a list, written one after another
 
 module _ {X : Type 0} (words : X → List ℕ) (size : ℕ) (sized : (x : X) → length (words x) ≡ size) where
   pub each-length : (xs : List X) → length (each words xs) ≡ length xs * size
@@ -78,7 +78,7 @@ module _ {X : Type 0} (words : X → List ℕ) (size : ℕ) (sized : (x : X) →
     pub all-laid : (i : ℕ) → length xs ≤ i → laidTo i ≡ putAt before from (each words xs)
     all-laid i end = ap (λ (l : List X). putAt before from (each words l)) (take-all i xs end)
 
--- words laid over just as many leave none of these
+-- words written over equally many words leave none of those
 pub laid-whole : (words laid : List ℕ) → length words ≡ length laid → putAt words 0 laid ≡ laid
 laid-whole words laid long =
     ap (laid ++_) (drop-of-length-le words (let all : length words ≤ 0 + length laid = omega arith in all)) ∙ append-nil laid
@@ -109,7 +109,7 @@ module _ (b : Book) (paths : length (b .paths) ≡ pathLimit) (bidders : length 
   unfolding bookWords
   parts = refl
 
-  -- so many they are
+  -- how many words a book has
   pub book-length : length (bookWords b) ≡ bookSize
   book-length =
       ap length (sym parts) ∙ length-append upToPaths (each bidderWords (b .bidders)) ∙ ap₂ _+_ up-to-paths bidders-length
@@ -121,7 +121,7 @@ module _ (b : Book) (paths : length (b .paths) ≡ pathLimit) (bidders : length 
         ap (λ (l : List ℕ). putAt l 2 (stageWords (b .stage))) (sets-eq counts words 0 (omega arith))
         ∙ put-behind words 0 counts (stageWords (b .stage)) (omega arith)
 
-    -- its parts laid one behind another are the book laid
+    -- a book's parts, written one after another, are the book written at once
     pub book-laid : putAt (putAt (putAt (set (set words 0 (b .«path_count»)) 1 (b .entries)) 2 (stageWords (b .stage))) frontSize (each pathWords (b .paths))) biddersFrom (each bidderWords (b .bidders)) ≡ putAt words 0 (bookWords b)
     book-laid =
         ap (λ (l : List ℕ). putAt (putAt l frontSize (each pathWords (b .paths))) biddersFrom (each bidderWords (b .bidders))) front-laid

@@ -1,4 +1,4 @@
--- A book laid in 64-bit words, and read back. The account, which is signed, stands beside the words.
+-- A book written in 64-bit words, and read back. The account, which is signed, is kept beside the words.
 use mathlib.Core.Path.{_≡_}
 use mathlib.Core.Bool.{Bool, true, false, cond, _&&_}
 use mathlib.Core.List.{List, [], _∷_, _++_}
@@ -70,7 +70,7 @@ stageWords (Open kind round period) = five 1 (kindNumber kind) round (period .fi
 abbrev pub frontWords : Book → List ℕ
 frontWords b = b .«path_count» ∷ b .entries ∷ stageWords (b .stage)
 
--- the words of each element of a list, one behind another
+-- the words of each element of a list, one after another
 abbrev pub each : {X : Type 0} → (X → List ℕ) → List X → List ℕ
 each words [] = []
 each words (x ∷ xs) = words x ++ each words xs
@@ -80,7 +80,7 @@ bookWords b = frontWords b ++ each pathWords (b .paths) ++ each bidderWords (b .
 
 -- ---- The book that words are read as, whatever they are
 
--- a number whose field has 32 bits
+-- the low 32 bits of a number, for a field of 32 bits
 abbrev pub narrow : ℕ → ℕ
 narrow n = n % 2 ^ 32
 
@@ -125,7 +125,7 @@ abbrev pub gathered : {X : Type 0} → (ℕ → X) → ℕ → List X
 gathered f zero = []
 gathered f (suc n) = gathered f n ++ (f n ∷ [])
 
--- the path, and the bidder, of a number
+-- the path, and the bidder, with a given number
 abbrev pub pathIn : List ℕ → ℕ → Path
 pathIn words i = pathAt words (frontSize + i * pathSize)
 
@@ -143,7 +143,7 @@ bookIn words account =
       stage = stageAt words;
     }
 
--- ---- Words that a book is laid in
+-- ---- Words that encode a book
 
 -- two lists have the same words
 abbrev pub sameWords : List ℕ → List ℕ → Bool
@@ -152,11 +152,12 @@ sameWords [] (y ∷ ys) = false
 sameWords (x ∷ xs) [] = false
 sameWords (x ∷ xs) (y ∷ ys) = eqb x y && sameWords xs ys
 
--- the first words are those of the book that they are read as, so that no part of them is lost when they are read; the account is not among them
+-- the first words are those of the book that they are read as, so that no part of them is lost when they are read; the account is
+-- not among them
 unfoldable pub stands : List ℕ → Bool
 stands words = sameWords (take bookSize words) (bookWords (bookIn words (pos 0)))
 
--- ---- A book that words can hold: it has just the slots, and its numbers fit their fields
+-- ---- A book that words can hold: it has exactly the slots, and its numbers fit their fields
 
 abbrev pub fits32 : ℕ → Bool
 fits32 n = ltb n (2 ^ 32)

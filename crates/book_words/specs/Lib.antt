@@ -1,2 +1,2 @@
--- A book laid in words, and read back.
+-- A book written in words, and read back.
 pub mod BookWords

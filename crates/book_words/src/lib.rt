@@ -1,5 +1,5 @@
-// A book read from lent 64-bit words: seven words in front, four for each slot of a path, six for each bidder. The account, which is
-// signed, stands beside the words.
+// A book read from lent 64-bit words: seven words in front, four for each slot of a path, six for each bidder. The account, which
+// is signed, is kept beside the words.
 use market::book::Bidder;
 use market::book::Book;
 use market::book::Direction;
@@ -28,7 +28,7 @@ pub const BIDDERS_FROM: usize = FRONT_WORDS + Engine::PATHS * PATH_WORDS;
 
 pub const BOOK_WORDS: usize = BIDDERS_FROM + Engine::BIDDERS * BIDDER_WORDS;
 
-// A word whose field has 32 bits.
+// The low 32 bits of a word, for a field of 32 bits.
 fn narrow(word: u64) -> u32
     ensures { λ r. ⌜ r ≡ rules.narrow word ⌝ }
 {

@@ -1,4 +1,4 @@
-// The calls, each lent the lists that it uses; of any other list it gets one word. Each prints its line.
+// The calls, each lent the lists that it uses, and for any other list a list of one word. Each prints its line.
 use crate::show;
 use engine::calls::Call;
 use funding::Funds;

@@ -13,7 +13,7 @@ pub const BLANK: u32 = 7;
 
 pub const BLANK_WIDE: u64 = 7;
 
-// A line that names the cases behind it.
+// A line that names the cases after it.
 pub fn heading(name: &[u8]) {
     report::text(b"- ");
     report::text(name);

@@ -1,11 +1,11 @@
-// Cases in one text, one behind another. Before a case stands a line with a word, how many bytes the case has, and a name for it; behind
-// the case stands one byte 10.
+// Cases in one text, one after another. Before a case there is a line with a word, how many bytes the case has, and a name for
+// it; after the case there is one byte 10.
 use fields::Field;
 ghost use Prim.Native.Nat.{_≤_, _<_};
 ghost use lib.ListN.{length};
 
-// Where a case stands in a text: its name up to the end of the line, its own bytes, and the place behind all of it, 0 where there is no
-// case.
+// Where a case is in a text: its name up to the end of the line, its own bytes, and the place after all of it, 0 where there is
+// no case.
 pub struct Case {
     pub name: usize,
     pub line: usize,
@@ -14,7 +14,7 @@ pub struct Case {
     pub behind: usize,
 }
 
-// Where the line ends on which a place stands: at its byte 10, or behind the last byte.
+// The end of the line that a place is on: its byte 10, or the place after the last byte.
 pub fn line_end(bytes: &[u8], from: usize) -> usize
     requires { ⌜ from ≤ length (now bytes) ⌝ }
     ensures { λ r. ⌜ from ≤ r ⌝ }
@@ -30,8 +30,8 @@ pub fn line_end(bytes: &[u8], from: usize) -> usize
     at
 }
 
-// What the line before the first case says: how many bytes the case has, and where on the line its name begins, 0 where there is no such
-// line. The word is given with the space behind it.
+// What the line before the first case says: how many bytes the case has, and where on the line its name begins, 0 where there is
+// no such line. The word is given with the space after it.
 fn header(bytes: &[u8], word: &[u8]) -> Field
     ensures { λ r. ⌜ r .used ≤ length (now (bytes .entry)) ⌝ }
 {

@@ -1,4 +1,4 @@
-// Journals of standard input, run one after the other, and what comes of each, on standard output. Each is a case with the word
+// Journals of standard input, run one after the other, and the output of each, on standard output. Each is a case with the word
 // `journal`.
 use libc::STDIN_FILENO;
 ghost use Prim.Native.Nat.{_≤_};
@@ -6,7 +6,7 @@ ghost use lib.ListN.{length};
 
 const INPUT_BYTES: usize = 262_144;
 
-// The name of the first journal of these bytes, and its output; the place behind it, 0 where no journal stands there.
+// Prints the name of the first journal of these bytes, and its output; returns the place after it, 0 where there is no journal.
 fn show_first(bytes: &[u8]) -> usize
     ensures { λ r. ⌜ r ≤ length (now (bytes .entry)) ⌝ }
 {

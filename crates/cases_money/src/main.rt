@@ -70,7 +70,7 @@ fn bidder_with(cash: u64, applied: u64, letter: u64, hold: u64) -> Bidder {
     }
 }
 
-// The answer, and bidder 3 as the book has it then.
+// The answer, and bidder 3 as the book then has it.
 fn show(outcome: Outcome) {
     report::text(b":");
     report::answer(outcome);
@@ -125,7 +125,7 @@ fn withdraw_case(book: Book, from: Funds, amount: u64) {
     show(funding::withdraw(book, 3, from, Cents(amount)));
 }
 
-// Applied cash is not to be had, nor what is held of the letter.
+// Applied cash cannot be withdrawn, and neither can what is held of the letter.
 fn withdraw_cases() {
     let book = book_with(bidder_with(100, 900, 5000, 10));
     withdraw_case(book, Funds::Cash, 0);
@@ -138,7 +138,7 @@ fn withdraw_cases() {
     withdraw_case(book, Funds::Letter, LARGEST);
 }
 
-// The bidder's number, and a book that is not sound: 2 before 10 before 11.
+// The order of refusals: an unsound book (2) before the bidder's number (10) before the amount (11).
 fn order_case(bidder: u32, hold: u64, amount: u64) {
     report::text(b"order");
     report::number(bidder as u64);

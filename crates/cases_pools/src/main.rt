@@ -303,7 +303,7 @@ fn disburse_by(
     show(outcome, &shares);
 }
 
-// A list of 31 words among lists of 32, and none.
+// Each list in turn with 31 words among lists of 32, and then none.
 fn short_cases(account: i64, total: u64) {
     let ones: [u32; 32] = [1; 32];
     let few: [u32; 31] = [1; 31];

@@ -23,7 +23,7 @@ fn put(words: &mut [u32; WORDS], i: usize)
     words[at + 5] = Engine::ISSUED;
 }
 
-// A register with so many entries of past days.
+// A register with `count` entries of past days.
 pub fn filled(count: usize) -> [u32; WORDS]
     requires { ⌜ count ≤ 1024 ⌝ }
 {
@@ -34,7 +34,7 @@ pub fn filled(count: usize) -> [u32; WORDS]
     words
 }
 
-// A book with so many entries, whose auction is open; 60 MW are offered.
+// A book with `entries` entries, whose auction is open; 60 MW are offered.
 fn opened(words: &mut [u32], entries: usize) -> Book {
     let given = book_parts::with_entries(calls::fresh(1), entries);
     let letter = calls::deposit(given, 7, Funds::Letter, 1_000_000);
@@ -45,8 +45,8 @@ fn opened(words: &mut [u32], entries: usize) -> Book {
     open.book
 }
 
-// A round of three bids over so many entries. Bidder 7 wins by both of its pairs, bidder 8 what these leave, if any, and bidder 9
-// nothing.
+// A round of three bids over `entries` entries. Bidder 7 wins by both of its pairs, bidder 8 wins what these leave, if any, and
+// bidder 9 wins nothing.
 fn round(entries: usize, second: u32)
     requires { ⌜ entries ≤ 1024 ⌝ }
 {

@@ -1,4 +1,4 @@
-// The refusals of a round. After a round's line stands whether book, register and lent lists are what they were.
+// The refusals of a round. The line after a round's line says whether book, register and lent lists are as they were.
 use crate::full;
 use calling::calls;
 use calling::show;
@@ -9,7 +9,7 @@ use market::engine::Engine;
 
 const WORDS: usize = Engine::REGISTER_WORDS;
 
-// A book with two paths, and bidder 3's cash and bidder 7's letter; its auction is open, with so many entries in the register.
+// A book with two paths, and bidder 3's cash and bidder 7's letter; its auction is open, with `entries` entries in the register.
 fn opened(register: [u32; WORDS], entries: usize) -> Book {
     let mut words = register;
     let given = book_parts::with_entries(calls::fresh(2), entries);
@@ -126,7 +126,7 @@ fn short_register(book: Book, bids: &[u32]) {
     lent(book, &mut words, bids);
 }
 
-// Each lent list a word too short, over a list of bids that a round takes.
+// Each lent list in turn is a word too short, with a list of bids that a round accepts.
 fn short_lists() {
     let words = [show::BLANK; WORDS];
     let book = opened(words, 0);
@@ -138,7 +138,7 @@ fn short_lists() {
     apart(book, words, &bids);
 }
 
-// Lengths, entries, stage and list are at fault, and then one less each time.
+// Lengths, entries, stage and list are at fault, and then one fault fewer each time.
 fn idle_order() {
     let words = full::filled(1_024);
     let bids = [0u32; Engine::BID_LIST_WORDS + 1];
@@ -163,8 +163,8 @@ fn second(book: Book, words: [u32; WORDS], price: u32, path: u32, stamp: u32) {
     apart(book, words, &bids);
 }
 
-// The second bid has a bad price, the first one's path and a falling stamp, and then one fault less each time over a
-// full register; then there is room, and the stamps are equal.
+// The second bid has a bad price, the first one's path and a falling stamp, and then one fault fewer each time over a full
+// register; then there is room, and the stamps are equal.
 fn bid_order() {
     let words = full::filled(1_024);
     let book = opened(words, 1_024);
@@ -175,7 +175,7 @@ fn bid_order() {
     second(book_parts::with_entries(book, 1_022), words, 400, 1, 100);
 }
 
-// A round of the first so many words of two bids.
+// A round of the first `end` words of two bids.
 fn first_words(book: Book, words: [u32; WORDS], end: usize) {
     let bids = [3u32, 0, 100, 2, 500, 20, 400, 20, 7, 0, 100, 1, 300, 5];
     let list = &bids[..];
@@ -193,7 +193,7 @@ fn cut_short() {
     }
 }
 
-// A bid with so many laminations, its prices falling.
+// A bid with `n` laminations, whose prices fall.
 fn with_laminations(n: u32) -> [u32; 46] {
     let mut words = [1u32; 46];
     words[0] = 3;

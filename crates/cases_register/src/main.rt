@@ -137,7 +137,7 @@ fn three_entries(words: &mut [u32])
     register::append(words, 2, entry(3, 7, 9_201, Engine::ISSUED));
 }
 
-// One of the three calls, made.
+// Makes one of the three calls.
 fn made(book: Book, words: &mut [u32], what: Call) -> Outcome {
     match what {
         Call::Pay { bidder, amount } => billing::pay(book, words, bidder, Cents(amount)),
@@ -216,7 +216,7 @@ fn amounts() {
     default_five(bidder(1_000, 2_000, 5, 5, 10_000));
 }
 
-// A step up with a default, and down with a payment: 10, 8, 5, 1 and back.
+// The step goes up with a default and down with a payment; the multipliers of steps 0 to 3 are 10, 8, 5, 1.
 fn step_case(step: u32) {
     let mut debtor = bidder(10_000, 0, 0, 0, 10);
     debtor.step = step;
@@ -266,7 +266,7 @@ fn short_register() {
     ask_all(book_of_sheet(0), &mut words);
 }
 
-// A call over the two entries of the sheet where the book counts so many.
+// A call over the two entries of the sheet where the book counts `entries`.
 fn ask_counted(entries: usize, what: Call) {
     let mut words = [BLANK; WORDS];
     two_entries(&mut words);

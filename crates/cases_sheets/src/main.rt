@@ -1,12 +1,12 @@
-// Sheets of standard input, run one after the other, and what comes of each, on standard output. Each is a case with the word `sheet`: first
-// those with a fault in their form, then those that have the form.
+// Sheets of standard input, run one after the other, and the output of each, on standard output. Each is a case with the word
+// `sheet`: first those that are malformed, then those that are well formed.
 use libc::STDIN_FILENO;
 ghost use Prim.Native.Nat.{_≤_};
 ghost use lib.ListN.{length};
 
 const INPUT_BYTES: usize = 524_288;
 
-// The name of the first sheet of these bytes, and its output; the place behind it, 0 where no sheet stands there.
+// Prints the name of the first sheet of these bytes, and its output; returns the place after it, 0 where there is no sheet.
 fn show_first(bytes: &[u8]) -> usize
     ensures { λ r. ⌜ r ≤ length (now (bytes .entry)) ⌝ }
 {

@@ -21,7 +21,7 @@ use Rattle.clearing.specs.Clearing.{soundPrice, withinCharges, chargeAt,
 pub charge-within : (price won : ℕ) → soundPrice price ≡ true → soundQuantity won ≡ true → price * won ≤ laminationValueLimit
 charge-within price won p q = mul-le-mul (leb-true price priceLimit p) (leb-true won quantityLimit q)
 
--- a credit keeps every amount within one charge more
+-- after a credit each amount is at most the old bound plus the charge
 credit-within : (amounts : List ℕ) (bidder charge top i : ℕ) → bidder < length amounts → getD amounts i 0 ≤ top → getD amounts bidder 0 ≤ top → getD (credit amounts bidder charge) i 0 ≤ top + charge
 credit-within amounts bidder charge top i inside h hb = go (eqb bidder i) refl
   where
@@ -33,7 +33,7 @@ credit-within amounts bidder charge top i inside h hb = go (eqb bidder i) refl
     go false e =
         omega (arith, getD-set-other amounts bidder i (getD amounts bidder 0 + charge) 0 (λ s. eqb-false bidder i e (sym s)))
 
--- the charges of the first `k` bids are added up, and those of the rest are to come
+-- the charges of the first `k` bids are added up, and those of the rest are still to come
 pub record ChargedTo (words won prices charges : List ℕ) (k at : ℕ) : Type 0 where
   pub walk : Walk pathLimit words k at
   pub rest : chargesOf won prices (bidsOf words) ≡ chargedFrom won prices charges k (left walk)

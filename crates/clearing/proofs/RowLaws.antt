@@ -1,4 +1,4 @@
--- The answers of bids laid over a lent list one by one, as `write_bids` does.
+-- The answers of bids written over a lent list one by one, as `write_bids` does.
 use mathlib.Core.Path.{_≡_, refl, sym, _∙_, ap, ap₂, subst}
 use mathlib.Core.Bool.{true}
 use mathlib.Core.List.{List, [], _∷_, _++_, append-assoc, append-nil}
@@ -16,14 +16,14 @@ use Rattle.clearing.specs.Clearing.{chargeAt, bidRow, bidRowsFrom, bidRo
 pub four-stores : (l : List ℕ) (at a b c d : ℕ) → at + 4 ≤ length l → set (set (set (set l at a) (at + 1) b) (at + 2) c) (at + 3) d ≡ take at l ++ (a ∷ b ∷ c ∷ d ∷ []) ++ drop (at + 4) l
 four-stores l at a b c d h = rw (add-one at, add-two at, add-three at) (sets-eq (a ∷ b ∷ c ∷ d ∷ []) l at h)
 
--- one row more behind rows that are laid over a list
+-- one row more after rows that are written over a list
 pub lay-next : (before rows row : List ℕ) → take (length rows) (laid before rows) ++ row ++ drop (length rows + length row) (laid before rows) ≡ laid before (rows ++ row)
 lay-next before rows row =
     ap₂ (λ (x y : List ℕ). x ++ row ++ y) (take-append-seam rows (drop (length rows) before))
     (drop-append-add rows (drop (length rows) before) (length row) ∙ drop-drop (length row) (length rows) before)
     ∙ ap (λ (n : ℕ). rows ++ row ++ drop n before) (sym (length-append rows row))
 
--- the rows of the first `k` bids are laid, and those of the rest are to come
+-- the rows of the first `k` bids are written, and those of the rest are still to come
 pub record LaidTo (words marks won prices before answers : List ℕ) (k at : ℕ) : Type 0 where
   pub walk : Walk pathLimit words k at
   pub rows : List ℕ

@@ -20,7 +20,7 @@ chargeAt won prices bid b = getD prices (b .path) 0 * getD won bid 0
 abbrev pub soundPrice : ℕ → Bool
 soundPrice price = leb price priceLimit
 
--- so much all bids of a list can be charged: each won at most 9,999 MW
+-- an amount that all bids of a list together can be charged: each won at most 9,999 MW
 abbrev pub withinCharges : ℕ → Bool
 withinCharges amount = leb amount (bidLimit * laminationValueLimit)
 

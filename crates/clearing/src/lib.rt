@@ -14,7 +14,7 @@ ghost use Rattle.bids.proofs.Walk.{soundList};
 ghost use Rattle.bids.specs.Bids.{bidsOf, laminationValueLimit};
 ghost use Rattle.clearing.specs.Clearing.{soundPrice, withinCharges, chargesOf, bidRows, laid};
 
-// The charge for so many MW at a clearing price.
+// The charge for `won` MW at a clearing price.
 fn charge(price: Cents, won: Megawatts) -> Cents
     requires { ⌜ soundPrice (price .0) ≡ true ⌝ }
     requires { ⌜ soundQuantity (won .0) ≡ true ⌝ }

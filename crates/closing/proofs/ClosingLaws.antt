@@ -1,4 +1,4 @@
--- Laws about rows taken one by one.
+-- Laws about rows written one by one.
 use mathlib.Core.Path.{_≡_, refl, sym, _∙_, ap}
 use mathlib.Core.List.{List, [], _∷_, _++_}
 use Prim.Native.Nat.{ℕ, zero, suc, _+_, _*_, _≤_}
@@ -16,7 +16,7 @@ pub three-stores : (l : List ℕ) (at a b c : ℕ) → at + 3 ≤ length l → s
 three-stores l at a b c h = rw (add-one at, add-two at) (sets-eq (a ∷ b ∷ c ∷ []) l at h)
 
 module _ (offered sold prices : List ℕ) where
-  -- three words a path
+  -- each row has three words
   pub rows-length : (n : ℕ) → length (pathRows offered sold prices n) ≡ n * pathAnswerSize
   rows-length zero = refl
   rows-length (suc n) =

@@ -1,6 +1,6 @@
--- Document 01, what a round leaves for bidders, and its answers of paths: "Then for each of the 32 bidders: its charges are added to
--- owed; min(cash, owed) moves from cash to applied and leaves owed; hold = min(letter, floor(owed/10))", and "48 for paths, each
--- offered and sold in this round, price or 0".
+-- Document 01, what a round leaves for bidders, and its answers for paths: "Then for each of the 32 bidders: its charges are
+-- added to owed; min(cash, owed) moves from cash to applied and leaves owed; hold = min(letter, floor(owed/10))", and "48 for
+-- paths, each offered and sold in this round, price or 0".
 use mathlib.Core.List.{List, [], _∷_, _++_}
 use Prim.Native.Nat.{ℕ, zero, suc, _+_, _-_, _/_, min}
 use lib.ListN.{getD, set}
@@ -29,7 +29,7 @@ swept x charges =
       step = x .step;
     }
 
--- "for each of the 32 bidders": the first so many swept, each with its charges
+-- "for each of the 32 bidders": the first `n` billed, each with its charges
 abbrev pub sweptTo : List Bidder → List ℕ → ℕ → List Bidder
 sweptTo bidders charges zero = bidders
 sweptTo bidders charges (suc n) =
@@ -40,7 +40,7 @@ sweptAll bidders charges = sweptTo bidders charges bidderLimit
 
 -- ---- Paths
 
--- "each offered and sold in this round, price or 0": the rows of the first so many paths
+-- "each offered and sold in this round, price or 0": the row of a path, and the rows of the first `n` paths
 abbrev pub pathRow : List ℕ → List ℕ → List ℕ → ℕ → List ℕ
 pathRow offered sold prices path = getD offered path 0 ∷ getD sold path 0 ∷ getD prices path 0 ∷ []
 

@@ -1,4 +1,4 @@
-// What a round leaves for bidders and paths, and the answers of the paths.
+// The answers of the paths in a round.
 use market::engine::Engine;
 ghost use mathlib.Core.Path.{_≡_};
 ghost use mathlib.Core.List.{_++_, _∷_, []};
@@ -19,7 +19,7 @@ fn put_row(answers: &mut [u64], i: usize, offered: u32, sold: u32, price: u64)
     answers[at + 2] = price;
 }
 
-// The answers of the first so many paths, at the front of the list that is lent for them.
+// The answers of the first `count` paths, at the front of the list that is lent for them.
 pub fn write_paths(
     offered: [u32; Engine::PATHS],
     sold: [u32; Engine::PATHS],

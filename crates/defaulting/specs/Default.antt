@@ -24,7 +24,7 @@ use Rattle.register.specs.declared.Removal.the-variants.{PendingOf}
 abbrev pub forfeitOf : Bidder → ℕ
 forfeitOf x = min (heldOf x + x .letter .0) (valueOf x / 10)
 
--- "taken from cash, then drawn on the letter": cash and applied cash come first, the letter has what they lack
+-- "taken from cash, then drawn on the letter": cash and applied cash come first, the letter covers what they lack
 abbrev pub drawOf : Bidder → ℕ
 drawOf x = forfeitOf x - heldOf x
 
@@ -41,7 +41,7 @@ defaultRefusals b i =
     ∷ (not (soundAccount (accountForfeited b i)) gives 31)
     ∷ []
 
--- 1 and 2 come before
+-- refusals 1 and 2 come first
 abbrev pub defaultTable : Book → List ℕ → ℕ → List Row
 defaultTable b words i = registerRefusals b words ++ defaultRefusals b i
 
@@ -71,7 +71,7 @@ unfoldable pub default : Book → List ℕ → ℕ → Outcome
 default b words i =
     decided b (firstOf (defaultTable b words i)) (drawn (drawOf (bidderOf b i)) (bookDefaulted b words i))
 
--- the register's words after it
+-- the register's words after the call
 unfoldable pub defaultWords : Book → List ℕ → ℕ → List ℕ
 defaultWords b words i =
     decidedList words (firstOf (defaultTable b words i)) (written words (entriesLeft b words i))

@@ -14,7 +14,7 @@ ghost use Rattle.market.specs.Limits.{bidderLimit, stepLimit};
 ghost use Rattle.market.specs.Sound.{soundBook};
 ghost use Rattle.defaulting.specs.Default.{forfeitOf, drawOf, defaultRefusals, defaultTable, defaulted, bookForfeited};
 
-// What a bidder forfeits: a tenth of its value, as far as its cash, applied cash and letter go.
+// What a bidder forfeits: a tenth of its value, but at most its cash, applied cash and letter together.
 pub fn forfeit(bidder: Bidder) -> Cents
     requires { ⌜ BidderBounds bidder ⌝ }
     ensures { λ r. ⌜ r ≡ cents (forfeitOf bidder) ⌝ }
@@ -31,7 +31,7 @@ pub fn forfeit(bidder: Bidder) -> Cents
     Cents(tenth)
 }
 
-// What of the forfeit is drawn on the letter: what cash and applied cash lack.
+// The part of the forfeit that is drawn on the letter: what cash and applied cash do not cover.
 pub fn draw(bidder: Bidder) -> Cents
     requires { ⌜ BidderBounds bidder ⌝ }
     ensures { λ r. ⌜ r ≡ cents (drawOf bidder) ⌝ }
@@ -61,7 +61,7 @@ fn cash_left(bidder: Bidder) -> Cents
     Cents(held - lost.0)
 }
 
-// A step that has risen by one, up to the last.
+// A step raised by one, up to the last.
 fn risen(step: u32) -> u32
     ensures { λ r. ⌜ r ≡ min (step + 1) stepLimit ⌝ }
 {
@@ -71,7 +71,7 @@ fn risen(step: u32) -> u32
     Engine::STEP_LIMIT
 }
 
-// A bidder that has defaulted.
+// A bidder after it has defaulted.
 fn defaulted_bidder(bidder: Bidder) -> Bidder
     requires { ⌜ BidderBounds bidder ⌝ }
     ensures { λ r. ⌜ r ≡ defaulted bidder ⌝ }
@@ -89,7 +89,7 @@ fn defaulted_bidder(bidder: Bidder) -> Bidder
     }
 }
 
-// The refusals of default after 1 and 2.
+// The first of default's refusals after 1 and 2; 0 where there is none.
 fn own_refusal(book: Book, bidder: u32) -> u32
     requires { ⌜ soundBook book ≡ true ⌝ }
     ensures { λ r. ⌜ r ≡ firstOf (defaultRefusals book bidder) ⌝ }
@@ -124,7 +124,7 @@ pub fn refusal(book: Book, words: &[u32], bidder: u32) -> u32
     own_refusal(book, bidder)
 }
 
-// The book with a bidder's forfeit in its account.
+// The book after a bidder's forfeit has gone to the account; the register's count is as before.
 pub fn book_forfeited(book: Book, bidder: u32) -> Book
     requires { ⌜ soundBook book ≡ true ⌝ }
     requires { ⌜ bidder < bidderLimit ⌝ }

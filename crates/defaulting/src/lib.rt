@@ -1,4 +1,4 @@
-// Default: a bidder that owes forfeits a tenth of its value, and its pending entries.
+// Default: a bidder that owes money forfeits a tenth of its value and loses its pending entries.
 mod default_parts;
 
 use market::answer::Answer;

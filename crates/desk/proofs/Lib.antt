@@ -1,4 +1,4 @@
--- The paper's sheet, and what comes of a sheet that has the form.
+-- The paper's sheet, and the output of a well-formed sheet.
 pub mod OutputLaws
 pub mod PaperSheet
 pub mod RunLaws

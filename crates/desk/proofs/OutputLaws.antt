@@ -35,7 +35,7 @@ module _ (text out : List ℕ) where
         ap (λ (t : Bool). bufferIf t out (outputOf text)) (sym short),
       )
 
-  -- and one that has room
+  -- a buffer that is long enough
   pub filled-with : awardSheetBytes ≤ length out → (output : List ℕ) → outputOf text ≡ output → (count : ℕ) (after : List ℕ) → count ≡ length output → after ≡ putAt out 0 output → (Written count ≡ answerTo text out) × (after ≡ bufferAfter text out)
   unfolding answerTo bufferAfter
   filled-with enough output is count after counted put =

@@ -1,4 +1,4 @@
--- The paper's own sheet, and what it says that the whole output is, byte for byte; and the same sheet with a deposit over its limit.
+-- The paper's own sheet has the output that the paper states, byte for byte; and the same sheet with a deposit over its limit.
 use mathlib.Core.Path.{_≡_, refl}
 use mathlib.Core.List.{[], _∷_}
 use Rattle.text.specs.Decimal.{decimal}

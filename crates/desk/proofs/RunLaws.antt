@@ -1,4 +1,4 @@
--- What is read of a sheet that has the form, and what comes of it, by the places that were found.
+-- What is read of a well-formed sheet at the places that were found, and the output that follows from it.
 use mathlib.Core.Path.{_≡_, refl, sym, _∙_, ap, ap₂, subst}
 use mathlib.Core.Bool.{true}
 use mathlib.Core.List.{List, [], _∷_, map}

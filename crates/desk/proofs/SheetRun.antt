@@ -1,4 +1,4 @@
--- A sheet that has the form: its calls up to open, the words of its rounds, and its output.
+-- A well-formed sheet: its calls up to open, the words of its rounds, and its output.
 use mathlib.Core.Path.{_≡_, refl, sym, _∙_, ap, ap₂}
 use mathlib.Core.Bool.{Bool, true, _&&_}
 use mathlib.Core.List.{List, [], _∷_, _++_, map}
@@ -61,7 +61,7 @@ module _ (kind : Kind) (period : Period) (bidders : List BidderLine) (paths : Li
   unfolding opened
   opened-state none = opened-with (answerNumber (made .answer)) refl none
 
--- ---- The output behind the calls up to open
+-- ---- The output after the calls up to open
 
 stays : (done : Progress) (rounds : List (List ℕ)) → (answerNumber (done .outcome .answer) ≡ 0 → ⊥) → roundsFrom done rounds ≡ done
 stays done [] some = refl
@@ -163,17 +163,17 @@ pub words-taken : (before words : List ℕ) (count : ℕ) → count ≡ length w
 words-taken before words count is =
     ap (λ (n : ℕ). take n (words ++ drop (0 + length words) before)) is ∙ take-append-seam words (drop (0 + length words) before)
 
--- a section's words are few enough for a list that has room for a sheet
+-- a list that is as long as a section has room for its words
 pub words-within : (section out : List ℕ) (count : ℕ) → count ≡ length (wordsOf section) → length section ≤ length out → count ≤ length out
 words-within section out count is room = omega (arith, is, room, words-few section)
 
--- and a part of a sheet is no longer than it
+-- and a part of a sheet is no longer than the sheet
 pub part-within : (n k : ℕ) (bytes : List ℕ) → length (take n (drop k bytes)) ≤ length bytes
 part-within n k bytes = omega (arith, length-take n (drop k bytes), length-drop k bytes)
 
 pub rest-within : (k : ℕ) (bytes : List ℕ) → length (drop k bytes) ≤ length bytes
 rest-within k bytes = omega (arith, length-drop k bytes)
 
--- words put at the front of a list, and those taken from it again
+-- the first `count` elements of a list that has as many are `count`
 pub counted-front : (out : List ℕ) (count : ℕ) → count ≤ length out → count ≡ length (take count out)
 counted-front out count within = sym (length-take-le count out within)

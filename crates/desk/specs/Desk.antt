@@ -1,4 +1,5 @@
--- Document 01, "Then come fresh book, deposits, open and rounds in sheet order; the first engine refusal prints only "refused N"."
+-- Document 01:
+-- "Then come fresh book, deposits, open and rounds in sheet order; the first engine refusal prints only "refused N"."
 use mathlib.Core.Bool.{Bool, true, false}
 use mathlib.Core.List.{List, map}
 use Prim.Native.Nat.{ℕ}
@@ -34,7 +35,7 @@ start s = opened (s .kind) (periodOf s) (s .bidders) (s .paths)
 
 -- ---- The output
 
--- of a sheet that has the form: the calls up to open, and a round for each section of bids
+-- the output of a well-formed sheet: the calls up to open, and a round for each section of bids
 unfoldable pub sheetOutput : Sheet → List ℕ
 sheetOutput s = outputFrom (start s) (map (λ x. x .bidder) (s .bidders)) (map encoded (s .rounds))
 

@@ -9,13 +9,13 @@ use sheets::form::Form;
 ghost use mathlib.Core.Path.{_≡_};
 ghost use Rattle.desk.specs.Desk.{answerTo, bufferAfter};
 
-// What is answered: the number of bytes written, or a refusal of the calling program.
+// The answer: the number of bytes written, or a refusal of the calling program.
 pub enum Reply {
     Written(usize),
     Refused(u32),
 }
 
-// The output of a sheet, to the front of the buffer lent: the award sheet, or the one line that stands in its place.
+// Writes the output of a sheet to the front of the buffer lent: the award sheet, or the one line that takes its place.
 pub fn output(bytes: &[u8], out: &mut [u8]) -> Reply
     ensures answer { λ r. ⌜ r ≡ answerTo (now (bytes .entry)) (now (out .entry)) ⌝ }
     ensures buffer { λ _. ⌜ now (out .exit) ≡ bufferAfter (now (bytes .entry)) (now (out .entry)) ⌝ }

@@ -1,4 +1,4 @@
-// A sheet that has the form, from its bytes to its output.
+// A well-formed sheet, from its bytes to its output.
 use award_rounds::refusals;
 use market::answer::Refusal;
 use market::book::Book;
@@ -27,7 +27,7 @@ ghost use Rattle.award_sheet.specs.AwardSheet.{isBidder};
 ghost use Rattle.round_output.specs.Rounds.{outputFrom};
 ghost use Rattle.desk.specs.Desk.{sheetOutput};
 
-// The round of a short auction, of the book that its open leaves.
+// The round of a short auction, with the book that its open leaves.
 fn run_short(bytes: &[u8], found: Found, book: Book, listed: &[u32], out: &mut [u8]) -> usize
     requires { ⌜ length (now bytes) ≤ sheetBytes ⌝ }
     requires { ⌜ PlacesAre (now bytes) (titleUsed (now bytes)) found ⌝ }
@@ -64,7 +64,7 @@ fn run_long(bytes: &[u8], found: Found, book: Book, listed: &[u32], out: &mut [u
     round_output::long_output(book, &words[..count], &later[..later_count], listed, out)
 }
 
-// Fresh book, deposits, open and rounds, and what comes of them.
+// Fresh book, deposits, open and rounds, and the output of these calls.
 pub fn run(bytes: &[u8], found: Found, out: &mut [u8]) -> usize
     requires { ⌜ formOf (now bytes) ≡ Form.Right ⌝ }
     requires { ⌜ PlacesAre (now bytes) (titleUsed (now bytes)) found ⌝ }

@@ -22,7 +22,7 @@ use Rattle.disbursement.specs.Disbursement.{Lent, longEnough, allLongEno
 use Rattle.pools.specs.declared.Columns.{Columns}
 use Rattle.disbursement.specs.declared.flow.Flow.{Flow}
 
--- a sound book, and a total within the limit
+-- the book is sound, and the total is within the limit
 pub total-cleared : (flow : Flow) (b : Book) (d : Cents) → firstOf (totalRefusals flow b d) ≡ 0 → (soundBook b ≡ true) × (d .0 ≤ poolLimit)
 total-cleared flow b d h =
     let fourth = (not (withinBound flow (accountAfter flow b d)) gives 32) ∷ [] in
@@ -33,14 +33,14 @@ total-cleared flow b d h =
     let three = none-holds (not (leb (d .0) poolLimit)) 32 fourth tt (two .1) in
     (not-false (soundBook b) (one .0), leb-true (d .0) poolLimit (not-false (leb (d .0) poolLimit) (three .0)))
 
--- besides, columns that are not refused; the number is the one that a function works out
+-- the columns are not refused either; `n` is the number that a function computes
 module _ (flow : Flow) (b : Book) (d : Cents) (cols : Columns) (n : ℕ) (is : n ≡ firstOf (totalRefusals flow b d ++ columnRefusals (d .0) cols)) (none : n ≡ 0) where
   pub rest-cleared : ((soundBook b ≡ true) × (d .0 ≤ poolLimit)) × (firstOf (columnRefusals (d .0) cols) ≡ 0)
   rest-cleared =
       let parts = neither-holds (totalRefusals flow b d) (columnRefusals (d .0) cols) refl (sym is ∙ none) in
       (total-cleared flow b d (parts .0), parts .1)
 
--- lists that are long enough
+-- each list is long enough
 pub record Long (l : Lent) : Type 0 where
   pub provincial : bidderLimit ≤ length (l .provincial)
   pub export : bidderLimit ≤ length (l .export)
@@ -66,7 +66,7 @@ long l h =
       shares = leb-true bidderLimit (length (l .shares)) (right-true (provincial && export && meters && interties) shares h);
     }
 
--- the same, of a test that a function works out
+-- the same from `r`, the test that a function computes
 pub tested-long : (l : Lent) (r : Bool) → r ≡ allLongEnough l → not r ≡ false → Long l
 tested-long l r is passed = long l (sym is ∙ not-false r passed)
 
@@ -81,7 +81,7 @@ long-alike l h =
     }
 
 module _ (flow : Flow) (b : Book) (d : Cents) (l : Lent) where
-  -- the number of a call: 1 where a list is too short, else that of the other rows
+  -- the refusal's number of a call: 1 where a list is too short, else that of the other rows
   module _ (r : Bool) (tested : r ≡ allLongEnough l) where
     pub short-number : not r ≡ true → 1 ≡ firstOf (refusals flow b d l)
     short-number h = rw (sym tested ∙ not-true r h)
@@ -115,7 +115,7 @@ module _ (flow : Flow) (b : Book) (d : Cents) (l : Lent) where
       writes-call cols amounts after same shared all =
           all ∙ ap (λ (s : List ℕ). s ++ drop bidderLimit (l .shares)) (shared ∙ ap (sharesOf (d .0)) same) ∙ rw (← is, none)
 
-  -- where a call is answered there are 32 shares, and they add up to the total
+  -- where a call is answered, there are 32 shares, and they add up to the total
   pub answered-shares : firstOf (refusals flow b d l) ≡ 0 → (length (sharesOf (d .0) (columnsOf l)) ≡ bidderLimit) × (total (sharesOf (d .0) (columnsOf l)) ≡ d .0)
   answered-shares h =
       let parts = neither-holds (lentRefusals l) (totalRefusals flow b d ++ columnRefusals (d .0) (columnsOf l)) refl h in

@@ -6,7 +6,7 @@ use native.Mathlib.Omega.{arith}
 use lib.ListN.{take}
 use Rattle.market.proofs.Filled.{filled}
 
--- a column that is copied from the front, at the end of the copy
+-- a column that is copied from the front is, at the end, the first `n` words
 pub all-copied : (words : List ℕ) (n i : ℕ) → n ≤ i → i ≤ n → filled (λ (x : ℕ). x) words n 0 i ≡ take n words
 all-copied words n i p q =
     let end : i ≡ n = omega arith in

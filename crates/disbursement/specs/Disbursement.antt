@@ -33,7 +33,7 @@ abbrev pub lent : List ℕ → List ℕ → List ℕ → List ℕ → List ℕ �
 lent provincial export meters interties shares =
     record { provincial = provincial; export = export; meters = meters; interties = interties; shares = shares }
 
--- a word for each participant
+-- a list with at least one word for each participant
 abbrev pub longEnough : List ℕ → Bool
 longEnough l = leb bidderLimit (length l)
 
@@ -45,7 +45,7 @@ allLongEnough l =
     && longEnough (l .interties)
     && longEnough (l .shares)
 
--- a column is the first 32 words of a list: words past them are no part of it
+-- a column is the first 32 words of a list: words after them are no part of it
 abbrev pub columnsFrom : List ℕ → List ℕ → List ℕ → List ℕ → Columns
 columnsFrom provincial export meters interties =
     record {
@@ -90,12 +90,12 @@ refusals flow b d l = lentRefusals l ++ (totalRefusals flow b d ++ columnRefusal
 
 -- ---- The calls
 
--- the answer and the book
+-- the answer, and the book after the call
 unfoldable pub outcome : Flow → Book → Cents → Lent → Outcome
 outcome flow b d l =
     decided b (firstOf (refusals flow b d l)) (answered (withAccount b (accountAfter flow b d)))
 
--- "nothing lent .. differs afterwards" where the call is refused; else all 32 shares are written, and words past them stay
+-- "nothing lent .. differs afterwards" where the call is refused; else all 32 shares are written, and the words after them stay
 abbrev pub written : ℕ → List ℕ → List ℕ → List ℕ
 written number shares before = decidedList before number (shares ++ drop bidderLimit before)
 
@@ -109,7 +109,7 @@ disburse b d l = outcome Out b d l
 abbrev pub disbursed : Book → Cents → Lent → List ℕ
 disbursed b d l = sharesAfter Out b d l
 
--- recover, likewise
+-- recover: its outcome, and what the lent list of shares holds after it
 abbrev pub recover : Book → Cents → Lent → Outcome
 recover b d l = outcome In b d l
 

@@ -1,4 +1,4 @@
-// One call for both ways that a total goes.
+// One call for both directions of a total.
 use crate::columns;
 use crate::flow::Flow;
 use crate::parts;

@@ -1,4 +1,4 @@
-// The columns of charges and energy, and the lent lists that they come from and the shares go to.
+// The columns of charges and energy, read from the lent lists, and the lengths of those lists.
 use market::engine::Engine;
 use pools::Columns;
 ghost use mathlib.Core.Path.{_≡_};
@@ -7,7 +7,7 @@ ghost use lib.ListN.{length, take};
 ghost use Rattle.market.specs.Limits.{bidderLimit};
 ghost use Rattle.disbursement.specs.Disbursement.{lent, allLongEnough, columnsFrom};
 
-// Whether each list that is lent has a word for each participant.
+// Whether each lent list has a word for each participant.
 pub fn all_long_enough(
     provincial: &[u32],
     export: &[u32],
@@ -24,7 +24,7 @@ pub fn all_long_enough(
         & (Engine::BIDDERS <= shares.len())
 }
 
-// The participants' words of a lent column.
+// The first words of a lent list, one for each participant.
 fn column_of(words: &[u32]) -> [u32; Engine::BIDDERS]
     requires { ⌜ bidderLimit ≤ length (now words) ⌝ }
     ensures { λ r. ⌜ r ≡ take bidderLimit (now (words .entry)) ⌝ }
@@ -36,7 +36,7 @@ fn column_of(words: &[u32]) -> [u32; Engine::BIDDERS]
     column
 }
 
-// The columns of the lists that are lent.
+// The columns that the lent lists hold.
 pub fn columns_of(provincial: &[u32], export: &[u32], meters: &[u32], interties: &[u32]) -> Columns
     requires { ⌜ bidderLimit ≤ length (now provincial) ⌝ }
     requires { ⌜ bidderLimit ≤ length (now export) ⌝ }

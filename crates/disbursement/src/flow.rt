@@ -1,6 +1,6 @@
-// Which way a total goes.
+// The direction of a total.
 
-// Out of the clearing account, as disbursed, or into it, as recovered.
+// Out of the clearing account (disbursed), or into it (recovered).
 pub enum Flow {
     Out,
     In,

@@ -1,4 +1,4 @@
-// Disburse and recover: a total shared out of the clearing account, or into it, by charges and energy.
+// Disburse and recover: a total that leaves the clearing account, or goes into it, shared by charges and energy.
 mod call;
 mod columns;
 mod flow;
@@ -11,7 +11,7 @@ use market::units::Cents;
 ghost use mathlib.Core.Path.{_≡_};
 ghost use Rattle.disbursement.specs.Disbursement as rules;
 
-// A total out of the clearing account, shared among the participants.
+// Takes a total out of the clearing account and shares it among the participants.
 pub fn disburse(
     book: Book,
     total: Cents,
@@ -36,7 +36,7 @@ pub fn disburse(
     )
 }
 
-// A total into the clearing account, shared among the participants.
+// Adds a total to the clearing account and shares it among the participants.
 pub fn recover(
     book: Book,
     total: Cents,

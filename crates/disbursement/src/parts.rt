@@ -1,4 +1,4 @@
-// The parts of disburse and recover that have to do with the book.
+// The parts of disburse and recover that concern the book.
 use crate::flow::Flow;
 use market::answer::Refusal;
 use market::book::Book;
@@ -17,7 +17,7 @@ ghost use Rattle.market.specs.Sound.{soundBook};
 ghost use Rattle.disbursement.specs.Disbursement.{accountAfter, withinBound, totalRefusals};
 ghost use Rattle.pools.specs.Pools.{columnRefusals};
 
-// The account with a total disbursed or recovered.
+// The account after a total is disbursed or recovered.
 fn account_after(flow: Flow, book: Book, total: Cents) -> Balance
     requires { ⌜ soundBook book ≡ true ⌝ }
     requires { ⌜ total .0 ≤ poolLimit ⌝ }
@@ -30,7 +30,7 @@ fn account_after(flow: Flow, book: Book, total: Cents) -> Balance
     }
 }
 
-// Whether the account may be left so: with the reserve, or not above 0.
+// Whether the account may be left so: after disburse with at least the reserve, after recover not above 0.
 fn within_bound(flow: Flow, after: Balance) -> bool
     ensures { λ r. ⌜ r ≡ withinBound flow (after .0) ⌝ }
 {
@@ -70,7 +70,7 @@ pub fn refusal(flow: Flow, book: Book, total: Cents, columns: Columns) -> u32
     pools::refusal(total.0, columns)
 }
 
-// The book with a total disbursed or recovered.
+// The book after a total is disbursed or recovered.
 pub fn moved(flow: Flow, book: Book, total: Cents) -> Book
     requires { ⌜ soundBook book ≡ true ⌝ }
     requires { ⌜ total .0 ≤ poolLimit ⌝ }

@@ -1,4 +1,4 @@
--- The scratch that a round leaves, as every call's.
+-- What a round's rule says of the scratch, as the rule for any call says it.
 use mathlib.Core.Path.{_≡_, sym, subst}
 use mathlib.Core.Bool.{Bool}
 use mathlib.Core.List.{List}

@@ -1,5 +1,5 @@
--- Document 01, "all else lent to a call is that call's own argument, with any contents": the lists that stand beside a call. Each call
--- reads and writes those that it is lent, and leaves the others.
+-- Document 01, "all else lent to a call is that call's own argument, with any contents": the lists that come with a call. Each
+-- call reads and writes those that it is lent, and leaves the others.
 use mathlib.Core.List.{List}
 use Prim.Native.Nat.{ℕ}
 use lib.IntN.{ℤ}

@@ -1,5 +1,5 @@
--- Document 01, "The eleven calls": what any of them answers, and what it leaves of the book, the register and the lists lent to it, each
--- by the call's own rule.
+-- Document 01, "The eleven calls": what any of them answers, and what it leaves of the book, the register and the lists lent
+-- to it, each by the call's own rule.
 use mathlib.Core.Path.{_≡_}
 use mathlib.Core.Bool.{Bool, true, false}
 use mathlib.Core.List.{List}
@@ -23,8 +23,8 @@ use Rattle.engine.specs.Lent.{Lent, columnsOf}
 use Rattle.engine.specs.declared.calls.Call.{Call}
 use Rattle.engine.specs.declared.calls.Call.the-variants.{Deposit, Withdraw, Open, Round, Pay, Default, Retire, Rent, Payout, Disburse, Recover}
 
--- what a call leaves: answer and book, the register's words, the lists that some call writes to, and whether the scratch may then hold
--- any words
+-- what a call leaves: answer and book, the register's words, the lists that some call writes to, and whether the scratch may
+-- then hold any words
 pub record Left : Type 0 where
   pub outcome : Outcome
   pub words : List ℕ
@@ -68,7 +68,7 @@ step b words (Payout day failed) l =
 step b words (Disburse total) l = shares l (disburse b total (columnsOf l)) words (disbursed b total (columnsOf l))
 step b words (Recover total) l = shares l (recover b total (columnsOf l)) words (recovered b total (columnsOf l))
 
--- the scratch after a call: as it was, or, where it may hold any words, as many of them
+-- the scratch after a call: as it was, or, where it may hold any words, of the same length
 abbrev pub ScratchHolds : Bool → List ℕ → List ℕ → Type 0
 ScratchHolds true before after = length after ≡ length before
 ScratchHolds false before after = after ≡ before

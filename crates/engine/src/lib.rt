@@ -1,4 +1,4 @@
-// The engine's face: one call that is any of the eleven.
+// The engine's one function for callers: a call that is any of the eleven.
 pub mod calls;
 
 use calls::Call;
@@ -9,8 +9,8 @@ ghost use Rattle.engine.specs.Lent.{lent};
 ghost use Rattle.engine.specs.Step as rules;
 
 // Any of the eleven calls. `words` is the register. Of the lists a call uses its own: open `quantities`; a round `bids`, and
-// `answers`, `results` and `scratch` to write to; payout `prices`; disburse and recover the four columns; and these three write to
-// `amounts`.
+// `answers`, `results` and `scratch` to write to; payout `prices`; disburse and recover the four columns; and these three
+// write to `amounts`.
 pub fn call(
     book: Book,
     words: &mut [u32],

@@ -1,4 +1,4 @@
-// Changes of the register's counted entries: a bidder's are issued, and those that are to go are removed.
+// Changes to the register's counted entries: issuing those of a bidder, and removing some.
 use market::book::Entry;
 use market::engine::Engine;
 use register::Removal;
@@ -22,7 +22,7 @@ fn issued_to(bidder: u32, entry: Entry) -> Entry
     next
 }
 
-// A bidder's entries are issued.
+// Issues a bidder's entries.
 pub fn issue(words: &mut [u32], count: usize, bidder: u32)
     requires { ⌜ count * entryWords ≤ length (now words) ⌝ }
     ensures { λ r. ⌜ now (words .exit) ≡ written (now (words .entry)) (map (issuedTo bidder) (entriesOf (now (words .entry)) count)) ⌝ }
@@ -44,7 +44,7 @@ fn is_gone(what: Removal, entry: Entry) -> bool
     }
 }
 
-// One entry more is looked at: it is put at the end of those that stay, unless it goes. Returns how many stay.
+// Looks at one more entry: unless it is to be removed, it is put after those that stay. Returns how many stay.
 fn keep(words: &mut [u32], i: usize, kept: usize, what: Removal) -> usize
     requires { ⌜ (i + 1) * entryWords ≤ length (now words) ⌝ }
     requires { ⌜ kept ≤ i ⌝ }
@@ -59,7 +59,7 @@ fn keep(words: &mut [u32], i: usize, kept: usize, what: Removal) -> usize
     kept + 1
 }
 
-// The entries that are to go are removed, and the others keep their order. Returns how many stay.
+// Removes the entries that `what` names; the others keep their order. Returns how many stay.
 pub fn remove(words: &mut [u32], count: usize, what: Removal) -> usize
     requires { ⌜ count * entryWords ≤ length (now words) ⌝ }
     ensures kept { λ r. ⌜ r ≡ length (without what (entriesOf (now (words .entry)) count)) ⌝ }

@@ -1,4 +1,4 @@
--- A field that is written is read, and one that is read stands in the text as it is written; so do numbers one after another.
+-- A field that is written is read, and one that is read is in the text as it is written. The same holds of numbers in a row.
 use mathlib.Core.Path.{_≡_, refl, sym, _∙_, ap, ap₂, subst}
 use mathlib.Core.Bool.{Bool, true, false, cond, _&&_}
 use mathlib.Core.List.{List, [], _∷_, _++_, append-assoc}
@@ -24,7 +24,7 @@ Front w text = text ≡ w ++ drop (length w) text
 pub front-here : (w rest : List ℕ) → Front w (w ++ rest)
 front-here w rest = ap (λ (l : List ℕ). w ++ l) (sym (drop-append-seam w rest))
 
--- bytes behind bytes
+-- first bytes, and then others after them
 pub front-both : (w v text : List ℕ) → Front w text → Front v (drop (length w) text) → Front (w ++ v) text
 front-both w v text first second =
     first
@@ -34,7 +34,7 @@ front-both w v text first second =
 
 -- ---- A field
 
--- a byte that is not 0 stands in the text
+-- a byte that is not 0 is in the text, not past its end
 stands : (text : List ℕ) (i stop : ℕ) → getD text i 0 ≡ stop → 1 ≤ stop → drop i text ≡ stop ∷ drop (i + 1) text
 stands text i stop is some = go (leb (length text) i) refl
   where
@@ -124,14 +124,14 @@ pub text-cons : (last n : ℕ) (ns : List ℕ) → 1 ≤ length ns → numbersTe
 text-cons last n [] h = absurd (let none : ⊥ = omega arith in none)
 text-cons last n (m ∷ ns) h = refl
 
--- ended by a newline they are a line
+-- if the last is ended by a newline, they are a line
 pub line-text : (n : ℕ) (ns : List ℕ) → numbersText newline (n ∷ ns) ≡ numbersLine (n ∷ ns)
 line-text n [] = refl
 line-text n (m ∷ ns) =
     append-assoc (decimal n) (space ∷ []) (numbersText newline (m ∷ ns))
     ∙ ap (λ (l : List ℕ). decimal n ++ (space ∷ l)) (line-text m ns)
 
--- and numbers ended by a space stand before more of them
+-- numbers of which the last is ended by a space can be followed by more numbers
 pub text-join : (last n : ℕ) (ns : List ℕ) (m : ℕ) (ms : List ℕ) → numbersText last ((n ∷ ns) ++ (m ∷ ms)) ≡ numbersText space (n ∷ ns) ++ numbersText last (m ∷ ms)
 text-join last n [] m ms = refl
 text-join last n (k ∷ ns) m ms =
@@ -188,7 +188,7 @@ module _ (limit last : ℕ) (few : limit < 10 ^ 13) (other : isDigit last ≡ fa
       ∙ ap (λ (l : List ℕ). n ∷ numbersSaid limit last (suc (length ns)) l) (drop-append-seam (fieldText n space) (more ++ rest))
       ∙ ap (λ (l : List ℕ). n ∷ l) (said-written m ns rest (right-true (leb n limit) (every (within limit) (m ∷ ns)) all))
 
--- numbers that are read stand in the text as they are written
+-- numbers that are read are in the text as they are written
 pub record NumbersRead (limit last k : ℕ) (text : List ℕ) : Type 0 where
   pub front : Front (numbersText last (numbersSaid limit last k text)) text
   pub long : numbersUsed limit last k text ≡ length (numbersText last (numbersSaid limit last k text))

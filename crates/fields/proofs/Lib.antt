@@ -1,3 +1,3 @@
--- Laws about fields: what is written is read, what is read is as it was written, and what is read at a place of a text.
+-- Laws about fields: a field that is written is read, one that is read is in the text as it is written, and fields at a place.
 pub mod FieldLaws
 pub mod ReadLaws

@@ -20,13 +20,13 @@ use Rattle.fields.proofs.FieldLaws.{both-some}
 
 -- ---- A word at a place
 
--- a word that stands is no longer than the text
+-- a word that begins a text is no longer than the text
 pub starts-fit : (word text : List ℕ) → startsWith word text ≡ true → length word ≤ length text
 starts-fit [] text e = omega arith
 starts-fit (c ∷ cs) [] e = absurd (false≢true e)
 starts-fit (c ∷ cs) (d ∷ ds) e = omega (arith, starts-fit cs ds (right-true (eqb c d) (startsWith cs ds) e))
 
--- the bytes of a word, found at a place before its byte `i`
+-- a word at a place of a text, of which the bytes before its byte `i` were found
 module _ (bytes : List ℕ) (at : ℕ) (word : List ℕ) where
   abbrev stands : Bool
   stands = startsWith word (drop at bytes)
@@ -184,7 +184,7 @@ pub stop-some : (t : Bool) (last stop : ℕ) → 1 ≤ last → stop ≡ cond t 
 stop-some true last stop h e = omega arith
 stop-some false last stop h e = omega arith
 
--- so many numbers are left behind bytes that are used
+-- the bytes used so far, and then those of the numbers that are left
 module _ (limit last : ℕ) where
   abbrev pub numbersBehind : ℕ → ℕ → List ℕ → ℕ
   numbersBehind used zero text = used

@@ -1,5 +1,5 @@
--- Document 01, "lines ended by byte 10, one space between fields, decimal without leading zeros": a line, and its numbers read back. What
--- is read at the front of a text is given by the bytes that it takes, and these are 0 where it does not stand there.
+-- Document 01, "lines ended by byte 10, one space between fields, decimal without leading zeros": a line, and its numbers read
+-- back. What is read at the front of a text is given by the bytes that it takes: 0 if it is not there.
 use mathlib.Core.Bool.{Bool, true, false, cond, _&&_}
 use mathlib.Core.List.{List, [], _∷_, _++_, map}
 use Prim.Native.Nat.{ℕ, zero, suc, _+_, _-_, _^_}
@@ -42,13 +42,13 @@ wordTop = 2 ^ 32 - 1
 abbrev pub amountTop : ℕ
 amountTop = 10 ^ digitLimit - 1
 
--- a text begins with these bytes
+-- whether a text begins with these bytes
 abbrev pub startsWith : List ℕ → List ℕ → Bool
 startsWith [] text = true
 startsWith (c ∷ cs) [] = false
 startsWith (c ∷ cs) (d ∷ ds) = eqb c d && startsWith cs ds
 
--- a field that is a word, and the space behind it
+-- a field that is a word, and the space after it
 abbrev pub spaced : List ℕ → List ℕ
 spaced word = word ++ (space ∷ [])
 
@@ -62,20 +62,20 @@ fieldOf limit stop text n =
 abbrev pub fieldAt : ℕ → ℕ → List ℕ → Field
 fieldAt limit stop text = fieldOf limit stop text (numberAt text)
 
--- one part behind another, both of which must stand there
+-- the bytes of two parts, one after the other: 0 if one of them is missing
 abbrev pub both : ℕ → ℕ → ℕ
 both zero n = 0
 both (suc m) zero = 0
 both (suc m) (suc n) = suc m + suc n
 
--- so many numbers up to a limit, each ended by a space and the last by another byte: the bytes that they take
+-- the bytes of numbers up to a limit, as many as the third argument says, each ended by a space and the last by another byte
 abbrev pub numbersUsed : ℕ → ℕ → ℕ → List ℕ → ℕ
 numbersUsed limit last zero text = 0
 numbersUsed limit last (suc zero) text = fieldAt limit last text .used
 numbersUsed limit last (suc (suc k)) text =
     both (fieldAt limit space text .used) (numbersUsed limit last (suc k) (drop (fieldAt limit space text .used) text))
 
--- and what they say
+-- and the values of these numbers
 abbrev pub numbersSaid : ℕ → ℕ → ℕ → List ℕ → List ℕ
 numbersSaid limit last zero text = []
 numbersSaid limit last (suc zero) text = fieldAt limit last text .value ∷ []

@@ -1,5 +1,5 @@
-// A number and the byte that ends it, and numbers one after another. What is read at a place is given by the bytes that it takes, and
-// these are 0 where it does not stand there.
+// A number and the byte that ends it, and numbers one after another. What is read at a place is given by the bytes that it takes:
+// 0 if it is not there.
 ghost use mathlib.Core.Path.{_≡_};
 ghost use mathlib.Core.Bool.{cond};
 ghost use Prim.Native.Nat.{_+_, _≤_};
@@ -12,18 +12,18 @@ pub const SPACE: u8 = 32;
 
 pub const NEWLINE: u8 = 10;
 
-// The largest numbers that fit 32 bits, and 13 digits.
+// The largest number that fits 32 bits, and the largest of 13 digits.
 pub const WORD_TOP: u64 = 4_294_967_295;
 
 pub const AMOUNT_TOP: u64 = 9_999_999_999_999;
 
-// A number that was read, and the bytes that it takes with the byte that ends it; 0 bytes where it does not stand there.
+// A number that was read, and the bytes that it takes together with the byte that ends it: 0 bytes if it is not there.
 pub struct Field {
     pub value: u64,
     pub used: usize,
 }
 
-// Whether these bytes stand at a place of a text.
+// Whether the bytes of `word` are at a place of a text.
 pub fn starts_with(bytes: &[u8], at: usize, word: &[u8]) -> bool
     requires { ⌜ at ≤ length (now bytes) ⌝ }
     ensures { λ r. ⌜ r ≡ startsWith (now (word .entry)) (drop at (now (bytes .entry))) ⌝ }
@@ -69,7 +69,7 @@ pub fn field_at(bytes: &[u8], at: usize, limit: u64, stop: u8) -> Field
     }
 }
 
-// The byte that ends a number which so many are to follow.
+// The byte that ends a number after which `more` numbers follow.
 fn stop_before(more: u64, last: u8) -> u8
     ensures { λ r. ⌜ r ≡ cond (eqb more 0) last space ⌝ }
 {
@@ -79,7 +79,7 @@ fn stop_before(more: u64, last: u8) -> u8
     SPACE
 }
 
-// The bytes of so many numbers, each ended by a space and the last by another byte.
+// The bytes that `count` numbers take, each ended by a space and the last by another byte.
 pub fn numbers_used(bytes: &[u8], at: usize, limit: u64, last: u8, count: u64) -> usize
     requires { ⌜ at ≤ length (now bytes) ⌝ }
     requires { ⌜ 1 ≤ last ⌝ }

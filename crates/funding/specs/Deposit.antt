@@ -25,7 +25,7 @@ abbrev pub depositRefusals : Book → ℕ → Funds → Cents → List Row
 depositRefusals b i to amount =
     fundingRefusals b i amount ++ (not (hasRoom (bidderOf b i) to amount) gives 11) ∷ []
 
--- the bidder with the amount more
+-- the bidder after a deposit of the amount
 abbrev pub credited : Bidder → Funds → Cents → Bidder
 credited x Cash amount = withCash x (x .cash .0 + amount .0)
 credited x Letter amount = withLetter x (x .letter .0 + amount .0)

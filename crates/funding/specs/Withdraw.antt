@@ -23,7 +23,7 @@ abbrev pub withdrawRefusals : Book → ℕ → Funds → Cents → List Row
 withdrawRefusals b i from amount =
     fundingRefusals b i amount ++ (not (leb (amount .0) (withdrawable (bidderOf b i) from)) gives 12) ∷ []
 
--- the bidder with the amount less
+-- the bidder after a withdrawal of the amount
 abbrev pub debited : Bidder → Funds → Cents → Bidder
 debited x Cash amount = withCash x (x .cash .0 - amount .0)
 debited x Letter amount = withLetter x (x .letter .0 - amount .0)

@@ -32,7 +32,7 @@ fn with_letter(bidder: Bidder, letter: Cents) -> Bidder
     next
 }
 
-// The refusals that deposit and withdraw have in common, of a sound book; 0 where there is none.
+// The first of the refusals that deposit and withdraw have in common, for a sound book; 0 where there is none.
 fn common_refusal(book: Book, bidder: u32, amount: Cents) -> u32
     requires { ⌜ soundBook book ≡ true ⌝ }
     ensures { λ r. ⌜ r ≡ firstOf (fundingRefusals book bidder amount) ⌝ }
@@ -75,7 +75,7 @@ pub fn deposit_refusal(book: Book, bidder: u32, to: Funds, amount: Cents) -> u32
     }
 }
 
-// The bidder with a deposit.
+// The bidder after a deposit.
 pub fn credited_bidder(bidder: Bidder, to: Funds, amount: Cents) -> Bidder
     requires { ⌜ hasRoom bidder to amount ≡ true ⌝ }
     ensures { λ r. ⌜ r ≡ credited bidder to amount ⌝ }
@@ -119,7 +119,7 @@ pub fn withdraw_refusal(book: Book, bidder: u32, from: Funds, amount: Cents) -> 
     }
 }
 
-// The bidder with a withdrawal.
+// The bidder after a withdrawal.
 pub fn debited_bidder(bidder: Bidder, from: Funds, amount: Cents) -> Bidder
     requires { ⌜ BidderBounds bidder ⌝ }
     requires { ⌜ amount .0 ≤ withdrawable bidder from ⌝ }

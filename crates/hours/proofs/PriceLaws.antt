@@ -21,7 +21,7 @@ price-account (negsuc a) h =
     let within : a ≤ zonePriceLimit - 1 = leb-true a (zonePriceLimit - 1) (left-true (leb a (zonePriceLimit - 1)) true h) in
     ap (_&& true) (le-leb a (accountLimit - 1) (omega arith))
 
--- what is above 0 of a price, by its sign
+-- the part above 0 of a price and of its negative, by the price's sign
 pub above-none : (z : ℤ) → ltZ z (pos 0) ≡ true → aboveZero z ≡ 0
 above-none (pos a) h = let below : a < 0 = ltb-true a 0 h in absurd (omega arith)
 above-none (negsuc a) h = refl
@@ -39,7 +39,7 @@ below-none (pos zero) h = refl
 below-none (pos (suc a)) h = refl
 below-none (negsuc a) h = absurd (true≢false h)
 
--- neither is more than a sound price may be
+-- for a sound price both parts are at most the limit of a price
 pub above-within : (z : ℤ) → soundPrice z ≡ true → aboveZero z ≤ zonePriceLimit
 above-within (pos a) h = leb-true a zonePriceLimit h
 above-within (negsuc a) h = zero-le

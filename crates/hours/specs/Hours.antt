@@ -33,7 +33,7 @@ hourAt false prices path = Priced (balance (getD prices (path .zone) (pos 0)))
 abbrev pub soundPrice : ℤ → Bool
 soundPrice p = leZ (negℤ (pos zonePriceLimit)) p && leZ p (pos zonePriceLimit)
 
--- the price that an entry sees is within these; a failed hour has none
+-- the price that an entry sees is within these limits; a failed hour has no price
 abbrev pub soundHour : Hour → Bool
 soundHour Failed = true
 soundHour (Priced p) = soundPrice (p .0)

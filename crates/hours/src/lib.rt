@@ -13,13 +13,13 @@ ghost use Rattle.market.specs.Limits.{zones, zonePriceLimit};
 ghost use Rattle.market.specs.Sound.{soundAccount};
 ghost use Rattle.hours.specs.Hours.{aboveZero, rate, hourAt, soundPrice, soundHour};
 
-// Failed, or priced at the zone of the entry's path, in cents per MW.
+// An hour: failed, or with the price at the zone of the entry's path, in cents per MW.
 pub enum Hour {
     Failed,
     Priced(Balance),
 }
 
-// What is above 0 of a price.
+// The part of a price above 0: the price itself, or 0 where it is negative.
 fn above_zero(price: Balance) -> u64
     requires { ⌜ soundAccount (price .0) ≡ true ⌝ }
     ensures { λ r. ⌜ r ≡ aboveZero (price .0) ⌝ }
@@ -31,7 +31,7 @@ fn above_zero(price: Balance) -> u64
     size.0
 }
 
-// What is above 0 of a price with the other sign.
+// The part of a price's negative above 0.
 fn below_zero(price: Balance) -> u64
     requires { ⌜ soundAccount (price .0) ≡ true ⌝ }
     ensures { λ r. ⌜ r ≡ aboveZero (negℤ (price .0)) ⌝ }
@@ -43,7 +43,7 @@ fn below_zero(price: Balance) -> u64
     0
 }
 
-// What one MW earns in the hour on a path of a direction.
+// What one MW earns in the hour on a path that leads in a given direction.
 pub fn rate_of(hour: Hour, direction: Direction) -> u64
     requires { ⌜ soundHour hour ≡ true ⌝ }
     ensures { λ r. ⌜ r ≡ rate hour direction ⌝ }

@@ -1,4 +1,4 @@
--- Laws about the line behind a round, piece by piece.
+-- Laws about replies, piece by piece.
 use mathlib.Core.Path.{_≡_, sym, _∙_, ap}
 use mathlib.Core.List.{List, [], _∷_, _++_, append-assoc, append-nil}
 use Prim.Native.Nat.{ℕ, suc, _-_, _≤_, _<_}
@@ -35,7 +35,7 @@ round-pieces bids answers paths results =
     append-assoc (counted ++ answered) (pathRows paths results) (newline ∷ [])
     ∙ append-assoc counted answered (pathRows paths results ++ (newline ∷ []))
 
--- what is printed behind each answer, with nothing behind it
+-- the reply by the answer of its call, as one piece with nothing after it
 module _ {answer : Answer} (told : Told) (list answers : List ℕ) (paths : ℕ) (results : List ℕ) where
   reply-as : {other : Answer} → answer ≡ other → replyText answer told list answers paths results ≡ replyText other told list answers paths results ++ []
   reply-as {other} is =

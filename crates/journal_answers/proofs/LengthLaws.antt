@@ -1,4 +1,4 @@
--- Every line fits: how long a line is at most.
+-- Every reply fits: how long a reply is at most.
 use mathlib.Core.List.{List, [], _∷_, _++_}
 use Prim.Native.Nat.{ℕ, zero, suc, _+_, _*_, _≤_}
 use native.Mathlib.Omega.{arith}
@@ -23,7 +23,7 @@ paths-most (suc k) results =
     omega
     (arith, row-most words.slashMark (take pathAnswerSize results), length-take pathAnswerSize results, rows-most words.barMark pathAnswerSize 65 (omega arith) k (drop pathAnswerSize results), length-append first others)
 
--- a bid's row has a mark and four
+-- a bid's row has a mark and four numbers
 pub round-most : (bids : ℕ) (answers : List ℕ) (paths : ℕ) (results : List ℕ) → length (roundText bids answers paths results) ≤ 26 + bids * 86 + paths * 65
 round-most bids answers paths results =
     let counted = row words.okMark (bids ∷ []) in
@@ -36,7 +36,7 @@ done-most : (told : Told) (list : List ℕ) → length list ≤ bidderLimit → 
 done-most Nothing list few = omega (arith, last-row-most words.okMark [])
 done-most Listed list few = omega (arith, last-row-most words.okMark list)
 
--- the line behind any call fits
+-- the reply to any call fits
 pub reply-fits : (answer : Answer) (told : Told) (list answers : List ℕ) (paths : ℕ) (results : List ℕ) → length list ≤ bidderLimit → bidsIn answer ≤ bidLimit → paths ≤ pathLimit → length (replyText answer told list answers paths results) ≤ replyRoom
 unfolding replyText
 reply-fits (Refused n) told list answers paths results few bids within = omega (arith, last-row-most words.refusedMark (n ∷ []))

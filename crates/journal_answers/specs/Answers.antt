@@ -1,4 +1,4 @@
--- docs/JOURNAL.md, "What is printed": the line behind each call.
+-- docs/JOURNAL.md, "What is printed": the reply to each call.
 use mathlib.Core.List.{List, [], _∷_, _++_}
 use Prim.Native.Nat.{ℕ, zero, suc}
 use lib.ListN.{drop, take}
@@ -11,11 +11,11 @@ use Rattle.journal_answers.specs.Words as words
 use Rattle.journal_answers.specs.declared.Told.{Told}
 use Rattle.journal_answers.specs.declared.Told.the-variants.{Nothing, Listed}
 
--- room for any line behind a call
+-- room for the reply to any call
 abbrev pub replyRoom : ℕ
 replyRoom = 65536
 
--- the bids that an answer tells of
+-- how many bids an answer tells of
 abbrev pub bidsIn : Answer → ℕ
 bidsIn (Refused n) = 0
 bidsIn Done = 0
@@ -32,12 +32,12 @@ abbrev pub roundText : ℕ → List ℕ → ℕ → List ℕ → List ℕ
 roundText bids answers paths results =
     row words.okMark (bids ∷ []) ++ rows words.barMark bidAnswerSize bids answers ++ pathRows paths results ++ (newline ∷ [])
 
--- "= ok", and behind it what the call tells of its list: the offers of an open auction, or 32 amounts
+-- "= ok", and after it the list that the call tells: the offers of an open auction, or 32 amounts
 abbrev pub doneText : Told → List ℕ → List ℕ
 doneText Nothing list = lastRow words.okMark []
 doneText Listed list = lastRow words.okMark list
 
--- the line behind a call. `list` is what the call tells where it tells a list, `answers` and `results` are a round's
+-- the reply to a call; `list` is the list that it tells, if any, and `answers` and `results` are those of a round
 unfoldable pub replyText : Answer → Told → List ℕ → List ℕ → ℕ → List ℕ → List ℕ
 replyText (Refused n) told list answers paths results = lastRow words.refusedMark (n ∷ [])
 replyText Done told list answers paths results = doneText told list

@@ -1,3 +1,3 @@
--- What a journal prints behind each call.
+-- The reply that a journal prints to each call.
 pub mod Words
 pub mod Answers

@@ -1,4 +1,4 @@
--- The marks of the line behind a call, as their bytes.
+-- The marks of a reply, as their bytes.
 use mathlib.Core.List.{List, [], _∷_}
 use Prim.Native.Nat.{ℕ}
 

@@ -1,4 +1,4 @@
-// What a journal prints behind each call.
+// The reply that a journal prints to each call.
 use market::answer::Answer;
 use market::engine::Engine;
 ghost use mathlib.Core.Path.{_≡_};
@@ -14,7 +14,7 @@ pub enum Told {
     Listed,
 }
 
-// The rows of a round's paths: the first behind a slash, each other behind a bar.
+// The rows of a round's paths: the first after a slash, each other after a bar.
 fn put_path_rows(out: &mut [u8], at: usize, results: &[u64], paths: usize) -> usize
     requires { ⌜ paths * pathAnswerSize ≤ length (now results) ⌝ }
     requires { ⌜ at + length (pathRows paths (now results)) ≤ length (now out) ⌝ }
@@ -35,7 +35,7 @@ fn put_path_rows(out: &mut [u8], at: usize, results: &[u64], paths: usize) -> us
     )
 }
 
-// The line behind a round.
+// The reply to a round.
 fn put_round(out: &mut [u8], bids: usize, answers: &[u64], paths: usize, results: &[u64]) -> usize
     requires { ⌜ bids * bidAnswerSize ≤ length (now answers) ⌝ }
     requires { ⌜ paths * pathAnswerSize ≤ length (now results) ⌝ }
@@ -50,7 +50,7 @@ fn put_round(out: &mut [u8], bids: usize, answers: &[u64], paths: usize, results
     text::put_bytes(out, end, b"\n")
 }
 
-// The line behind a call that is done.
+// The reply to a call that is done.
 fn put_done(out: &mut [u8], told: Told, list: &[u64]) -> usize
     requires { ⌜ length (doneText told (now list)) ≤ length (now out) ⌝ }
     ensures place { λ r. ⌜ r ≡ length (doneText told (now (list .entry))) ⌝ }
@@ -62,7 +62,7 @@ fn put_done(out: &mut [u8], told: Told, list: &[u64]) -> usize
     }
 }
 
-// The line behind a call, at the front of the buffer; the place behind it.
+// The reply to a call, at the front of the buffer; returns the place after it.
 pub fn put_reply(
     out: &mut [u8],
     answer: Answer,

@@ -15,7 +15,7 @@ use Rattle.fields.specs.declared.Field.{Field}
 use Rattle.fields.proofs.ReadLaws.{starts-fit}
 use Rattle.journal_fields.specs.JournalFields.{noField, numeralWithin, numeralOf, numeral, behind, number, closing, lastNumber, choice}
 
--- a word that stands at a place has its bytes there
+-- a word that is present at a place ends within the line
 pub word-room : (word line : List ℕ) (at : ℕ) → at ≤ length line → startsWith word (drop at line) ≡ true → at + length word ≤ length line
 word-room word line at h e = omega (arith, starts-fit word (drop at line) e, length-drop at line)
 

@@ -105,7 +105,7 @@ module _ (text : List ℕ) (at limit : ℕ) where
     pub ended-line : length text ≤ i → made value (i - at) ≡ numeral limit (drop at text)
     ended-line h = ended (past-text text i h)
 
-    -- one more digit stands here
+    -- one more digit is present here
     module _ (h : i < length text) (low : zeroByte ≤ getD text i 0) (high : getD text i 0 ≤ zeroByte + 9) where
       abbrev c : ℕ
       c = getD text i 0
@@ -122,17 +122,17 @@ module _ (text : List ℕ) (at limit : ℕ) where
       says-next : valueFrom 0 ds ≡ valueFrom next rest
       says-next = to .says ∙ ap (valueFrom value) first
 
-      -- behind a zero
+      -- it comes after a leading zero
       pub zero-first : at < i → value ≡ 0 → noField ≡ numeral limit (drop at text)
       unfolding numeral
       zero-first past z = not-plain limit ds (to .leading past z ∙ ap noMore first)
 
-      -- and the number is over the limit
+      -- it makes the number larger than the limit
       pub too-large : limit < next → noField ≡ numeral limit (drop at text)
       unfolding numeral
       too-large more = over limit ds (omega (arith, says-next, value-least next rest))
 
-      -- and the number goes on
+      -- otherwise the number goes on
       pub numeral-more : (at < i → 1 ≤ value) → next ≤ limit → NumeralTo (i + 1) next
       numeral-more nonzero fits =
           record {

@@ -1,4 +1,4 @@
--- Laws about what is laid at the front of a list.
+-- Laws about what is written at the front of a list.
 use mathlib.Core.Path.{_≡_, sym, _∙_, ap}
 use mathlib.Core.List.{List, [], _∷_, _++_, append-assoc}
 use Prim.Native.Nat.{ℕ, suc, _+_, _≤_, _<_}
@@ -7,7 +7,7 @@ use lib.ListN.{length, drop, set, getD, length-append, length-drop}
 use lib.Seq.{drop-cons, set-at}
 use Rattle.journal_fields.specs.JournalFields.{laid}
 
--- one more element behind what is laid
+-- one more element after what is written
 pub laid-more : {X : Type 0} (xs list : List X) (i : ℕ) (x : X) → length xs ≡ i → i < length list → set (laid xs list) i x ≡ laid (xs ++ (x ∷ [])) list
 laid-more xs list i x e h =
     let d = getD list i x in

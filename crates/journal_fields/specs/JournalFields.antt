@@ -1,5 +1,5 @@
--- docs/JOURNAL.md, "A line": "one space between fields, decimal": every field but the first stands behind one space. What is read at the front
--- of a text is given by the bytes that it takes with that space, and these are 0 where it does not stand there.
+-- docs/JOURNAL.md, "A line": "one space between fields, decimal": every field but the first comes after one space. A field read
+-- at the front of a text has its value and how many bytes it takes with that space, 0 where it is not present.
 use mathlib.Core.Bool.{Bool, cond, not, _&&_}
 use mathlib.Core.List.{List, [], _∷_, _++_}
 use Prim.Native.Nat.{ℕ, zero, suc, _+_, _-_, _^_}
@@ -35,11 +35,11 @@ numeralOf limit ds = cond (numeralWithin limit ds) (record { value = valueFrom 0
 unfoldable pub numeral : ℕ → List ℕ → Field
 numeral limit text = numeralOf limit (digitsIn text)
 
--- what stands behind so many bytes
+-- a field after `n` other bytes
 abbrev pub behind : ℕ → Field → Field
 behind n f = cond (eqb (f .used) 0) noField (record { value = f .value; used = n + f .used })
 
--- a number up to a limit, behind its space
+-- a number up to a limit, after its space
 unfoldable pub number : ℕ → List ℕ → Field
 number limit text = cond (startsWith (space ∷ []) text) (behind 1 (numeral limit (drop 1 text))) noField
 
@@ -78,8 +78,8 @@ unfoldable pub price : List ℕ → Price
 price text =
     cond (startsWith minus text) (belowZero (numeral priceTop (drop 2 text))) (aboveZero (number priceTop text))
 
--- ---- Lists: fields of one sort one behind another, at most so many. `used` says how many bytes such a field takes at the front of a text, and
--- `value` what it says.
+-- ---- Lists: fields of one sort, one after another, at most as many as are asked for. `used` says how many bytes such a field
+-- takes at the front of a text, and `value` what it says.
 module _ {X : Type 0} (used : List ℕ → ℕ) (value : List ℕ → X) where
   -- what they say
   abbrev pub fieldsSaid : ℕ → List ℕ → List X

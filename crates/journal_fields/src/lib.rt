@@ -1,5 +1,5 @@
-// The fields of a journal's line, each read at a place of it with the space before it. What is read is given by the bytes that it takes,
-// and these are 0 where it does not stand there.
+// The fields of a journal's line. Each is read at a place of the line, with the space before it; the result also says how many
+// bytes the field takes, 0 where it is not present.
 use fields::Field;
 ghost use mathlib.Core.Path.{_≡_};
 ghost use Prim.Native.Nat.{_+_, _≤_};
@@ -20,7 +20,7 @@ pub struct Price {
     pub used: usize,
 }
 
-// What stands from a place of a line on.
+// The part of a line from a place on.
 pub fn behind(line: &[u8], at: usize) -> &[u8]
     requires { ⌜ at ≤ length (now line) ⌝ }
     ensures { λ r. ⌜ now r ≡ drop at (now (line .entry)) ⌝ }
@@ -72,7 +72,7 @@ pub fn numeral_at(line: &[u8], at: usize, limit: u64) -> Field
     }
 }
 
-// The number at a place behind its space, up to a limit.
+// The number at a place after its space, up to a limit.
 pub fn number_at(line: &[u8], at: usize, limit: u64) -> Field
     requires { ⌜ at ≤ length (now line) ⌝ }
     ensures field { λ r. ⌜ r ≡ rules.number limit (drop at (now (line .entry))) ⌝ }
@@ -105,7 +105,7 @@ pub fn last_number(line: &[u8], at: usize, limit: u64) -> Field
     found
 }
 
-// Which of two words stands at a place; each is given with its space.
+// Which of two words is present at a place; each is given with its space.
 pub fn choice_at(line: &[u8], at: usize, first: &[u8], second: &[u8]) -> Field
     requires { ⌜ at ≤ length (now line) ⌝ }
     ensures field { λ r. ⌜ r ≡ rules.choice (now (first .entry)) (now (second .entry)) (drop at (now (line .entry))) ⌝ }

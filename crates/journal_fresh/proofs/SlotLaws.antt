@@ -1,4 +1,4 @@
--- Laws about fields that are read to the end of a text, the first of them laid in slots.
+-- Laws about fields that are read to the end of a text, the first of them written in slots.
 use mathlib.Core.Path.{_≡_, refl, sym, _∙_, ap}
 use mathlib.Core.Bool.{Bool, cond}
 use mathlib.Core.List.{List, [], _∷_, _++_, append-assoc, append-nil}
@@ -51,7 +51,7 @@ module _ {X : Type 0} (used : List ℕ → ℕ) (value : List ℕ → X) (text :
     slots-length =
         ap length (to .list) ∙ laid-length (take (length before) (to .done)) before (omega (arith, take-most (length before) (to .done)))
 
-    -- no further field stands here: what was read is all
+    -- no further field is present: what was read is all
     module _ (none : used here ≡ 0) where
       gone-said : (k : ℕ) → said k here ≡ []
       gone-said zero = refl
@@ -75,7 +75,7 @@ module _ {X : Type 0} (used : List ℕ → ℕ) (value : List ℕ → X) (text :
       pub slots-list : out ≡ laid (take (length before) (said (length text) text)) before
       slots-list = to .list ∙ ap (λ l. laid (take (length before) l) before) all
 
-    -- one more does
+    -- one more field is present
     module _ (some : used here ≡ 0 → ⊥) (room : place + used here ≤ length text) where
       abbrev more : List X
       more = to .done ++ (value here ∷ [])
@@ -127,7 +127,7 @@ module _ {X : Type 0} (used : List ℕ → ℕ) (value : List ℕ → X) (text :
           ∙ laid-more (to .done) before i (value here) (to .count) h
           ∙ ap (λ l. laid l before) (sym (take-all (length before) more (omega (arith, longer)))))
 
-      -- there is none
+      -- there is no slot for it
       pub slots-past : length before ≤ i → SlotsTo (i + 1) (place + used here) out
       slots-past h =
           slots-on out

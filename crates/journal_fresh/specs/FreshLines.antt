@@ -26,7 +26,7 @@ importOption = 32 ∷ 77 ∷ []
 abbrev pub wayOf : ℕ → Direction
 wayOf n = cond (eqb n 0) Export Import
 
--- a route at the front of a text, and the bytes that it takes, 0 where it does not stand there
+-- a route at the front of a text, and the bytes that it takes, 0 where it is not present
 abbrev pub routeOf : Field → Field → RouteField
 routeOf w z =
     cond (stands w && stands z)
@@ -55,7 +55,8 @@ routesUsed text = fieldsUsed routeUsed routeValue (length text) text
 abbrev pub noSlots : List Route
 noSlots = replicate pathLimit noRoute
 
--- what stands behind the word "fresh": whether it goes on to the end, how many routes there are, and the first of them in their slots
+-- what the text after the word "fresh" says: whether its routes go on to the end, how many there are, and the first of them in
+-- their slots
 unfoldable pub freshSaid : List ℕ → FreshLine
 freshSaid text =
     record {

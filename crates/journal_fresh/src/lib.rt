@@ -9,7 +9,7 @@ ghost use lib.ListN.{length, drop};
 ghost use Rattle.market.specs.Books.{noRoute};
 ghost use Rattle.journal_fresh.specs.FreshLines as rules;
 
-// A route that was read, and the bytes that it takes, 0 where it does not stand there.
+// A route that was read, and the bytes that it takes, 0 where it is not present.
 pub struct RouteField {
     pub route: Route,
     pub used: usize,
@@ -63,7 +63,7 @@ fn route_at(text: &[u8], at: usize) -> RouteField
     }
 }
 
-// What stands behind the word of a fresh book.
+// What the text after the word of a fresh book says.
 pub fn fresh_said(text: &[u8]) -> FreshLine
     ensures { λ r. ⌜ r ≡ rules.freshSaid (now (text .entry)) ⌝ }
 {

@@ -21,7 +21,7 @@ use Rattle.journal_lines.specs.declared.verbs.Verb.the-variants as verbs
 use Rattle.journal_lines.specs.Journal.{whole, fundsOf, accountCall, accountOf, accountSaid, opening, ends, openedBy, hourLine, paidBy, columnWords, shareCall, sharedBy, paySaid, defaultSaid, retireSaid, rentSaid, openSaid, roundSaid, payoutSaid, shareSaid, saidBy, wordsBy, pricesBy, lineSaid, lineWords, linePrices}
 use Rattle.journal_lines.specs.Verbs as words
 
--- a call has as many as are given, and a faulty line none
+-- a call has as many as are given; nothing is asked of a faulty line
 abbrev Fits : Said → ℕ → ℕ → Type 0
 Fits Faulty n m = Unit {0}
 Fits (Called call i k) n m = (i ≡ n) × (k ≡ m)

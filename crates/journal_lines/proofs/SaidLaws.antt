@@ -60,7 +60,7 @@ module _ (text : List ℕ) where
   hour-same d h p q =
       ap (hourOf d) q ∙ ap (λ (x : Field). hourOf x (choice words.failedOption words.pricedOption (drop (x .used) text))) p
 
-  -- and so with a list behind them: `count` and `used` are how many it has and the bytes that they take
+  -- the same with a list after them: `count` is how many elements it has, and `used` the bytes that they take
   module _ (cap count used : ℕ) where
     abbrev said : ℕ → List ℕ
     said from = wordsSaid cap (drop from text)
@@ -96,7 +96,7 @@ module _ (text : List ℕ) where
         ∙ ap (sharedBy text disburse d (length (said (d .used)))) q
         ∙ ap (λ (x : Field). sharedBy text disburse x (length (said (x .used))) (taken (x .used))) e
 
--- the line whole: its first word is `n`, which names `v`, and `text` stands behind it
+-- the whole line: its first word is `n`, which names `v`, and `text` comes after it
 module _ (line : List ℕ) (n : Named) (v : Verb) (text : List ℕ) (e : n ≡ words.verbAt line) (named : n .verb ≡ v) (t : text ≡ drop (n .used) line) where
   line-same : {X : Type 0} (f : Verb → List ℕ → X) → f v text ≡ f (words.verbAt line .verb) (drop (words.verbAt line .used) line)
   line-same f =

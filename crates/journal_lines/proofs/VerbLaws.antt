@@ -1,4 +1,4 @@
--- Laws about the first of four words that stands.
+-- Laws about the first of four words that is present.
 use mathlib.Core.Path.{_≡_}
 use mathlib.Core.Bool.{Bool, true, false, cond}
 use Rattle.journal_lines.specs.declared.verbs.Named.{Named}

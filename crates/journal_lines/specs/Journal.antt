@@ -1,5 +1,5 @@
--- docs/JOURNAL.md, "A line": what the fields behind a line's first word say, call by call. A line "that has not this form" says nothing, which is
--- `Faulty`.
+-- docs/JOURNAL.md, "A line": what the fields after a line's first word say, call by call. A line "that has not this form" says
+-- nothing, which is `Faulty`.
 use mathlib.Core.Bool.{Bool, true, false, cond, _&&_}
 use mathlib.Core.List.{List, []}
 use Prim.Native.Nat.{ℕ, _+_, _*_, _%_}
@@ -27,7 +27,7 @@ use Rattle.journal_lines.specs.declared.verbs.Named.{Named}
 use Rattle.journal_lines.specs.declared.verbs.Verb.{Verb}
 use Rattle.journal_lines.specs.declared.verbs.Verb.the-variants as verbs
 
--- a call with so many words and so many prices in its lists, where all of its line stands
+-- a call with `count` words and `prices` prices in its lists, where all of its line is well formed
 abbrev pub whole : Bool → Call → ℕ → ℕ → Said
 whole true call count prices = Called call count prices
 whole false call count prices = Faulty
@@ -100,7 +100,7 @@ opening text =
     let f = number wordTop (drop (k .used) text) in
     openingOf k f (number wordTop (drop (k .used + f .used) text))
 
--- a list behind so many bytes of a text goes on to its end
+-- a list of `used` bytes after the first `from` bytes of a text goes on to its end
 abbrev pub ends : List ℕ → ℕ → ℕ → Bool
 ends text from used = eqb (from + used) (length text)
 

@@ -56,7 +56,7 @@ recoverWord = 114 ∷ 101 ∷ 99 ∷ 111 ∷ 118 ∷ 101 ∷ 114 ∷ []
 abbrev pub freshWord : List ℕ
 freshWord = 102 ∷ 114 ∷ 101 ∷ 115 ∷ 104 ∷ []
 
--- ---- One of two, each with its space
+-- ---- Options, each one of two words, with its space
 
 -- " cash"
 abbrev pub cashOption : List ℕ
@@ -95,7 +95,7 @@ lastVerb line =
     (cond (startsWith freshWord line) (named Fresh (length freshWord))
     (named Unknown 0))))
 
--- "payout" stands before "pay", with which it begins
+-- "payout" is tried before "pay", with which it begins
 unfoldable pub laterVerb : List ℕ → Named
 laterVerb line =
     cond (startsWith payoutWord line) (named Payout (length payoutWord))

@@ -7,7 +7,7 @@ ghost use Prim.Native.Nat.{_≤_};
 ghost use lib.ListN.{length};
 ghost use Rattle.journal_lines.specs.Journal as rules;
 
-// Kind and period of an auction, whether they stand, and the bytes that they take.
+// Kind and period of an auction, whether they are present, and the bytes that they take.
 pub struct Opening {
     pub stands: bool,
     pub kind: Kind,
@@ -15,7 +15,7 @@ pub struct Opening {
     pub used: usize,
 }
 
-// Day and hour of a payout, whether they stand, and the bytes that they take.
+// Day and hour of a payout, whether they are present, and the bytes that they take.
 pub struct HourLine {
     pub stands: bool,
     pub day: Day,

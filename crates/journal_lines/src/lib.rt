@@ -16,7 +16,7 @@ ghost use Rattle.journal_lines.specs.Journal as rules;
 // How many words a call's four columns have.
 pub const COLUMN_WORDS: usize = 4 * Engine::BIDDERS;
 
-// What a line says: nothing, or a call with so many words and so many prices in its lists.
+// What a line says: nothing, or a call and how many words and how many prices its lists have.
 pub enum Said {
     Faulty,
     Called(Call, usize, usize),

@@ -25,7 +25,7 @@ fn put_offer(out: &mut [u8], at: usize, path: Path) -> usize
     }
 }
 
-// The path of a number.
+// The path with number `i`.
 pub fn put_path(out: &mut [u8], i: usize, path: Path) -> usize
     requires { ⌜ lineRoom ≤ length (now out) ⌝ }
     ensures place { λ r. ⌜ r ≡ length (pathText i path) ⌝ }
@@ -49,7 +49,7 @@ fn is_blank(bidder: Bidder) -> bool
     money & (bidder.step == 0)
 }
 
-// The bidder of a number, and nothing where all is 0.
+// The bidder with number `i`, and nothing where all of it is 0.
 pub fn put_bidder(out: &mut [u8], i: usize, bidder: Bidder) -> usize
     requires { ⌜ lineRoom ≤ length (now out) ⌝ }
     ensures place { λ r. ⌜ r ≡ length (bidderPart i bidder) ⌝ }
@@ -75,7 +75,7 @@ pub fn put_bidder(out: &mut [u8], i: usize, bidder: Bidder) -> usize
     rows::put_last_row(out, 0, b"# bidder", &row)
 }
 
-// The register's entry of a number.
+// The register's entry with number `i`.
 pub fn put_entry(out: &mut [u8], i: usize, entry: Entry) -> usize
     requires { ⌜ lineRoom ≤ length (now out) ⌝ }
     ensures place { λ r. ⌜ r ≡ length (entryText i entry) ⌝ }

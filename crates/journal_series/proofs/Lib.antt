@@ -1,3 +1,3 @@
--- Laws about fields of a journal's line that stand one behind another.
+-- Laws about fields of a journal's line that come one after another.
 pub mod PriceLaws
 pub mod SeriesLaws

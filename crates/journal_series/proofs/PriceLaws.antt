@@ -47,6 +47,6 @@ pub below-fits : (n : ℕ) → n ≤ priceTop → SFits w64 (negℤ (pos n))
 below-fits zero h = record { sfits = omega arith }
 below-fits (suc n) h = record { sfits = omega arith }
 
--- the other sign of a size, as it is worked out
+-- the other sign of a size, as the code computes it
 pub opposite : (n : ℕ) → pos 0 -ℤ pos n ≡ negℤ (pos n)
 opposite n = +ℤ-idl (negℤ (pos n))

@@ -1,4 +1,4 @@
--- Laws about fields that are read one behind another and laid at the front of a list.
+-- Laws about fields that are read one after another and written at the front of a list.
 use mathlib.Core.Path.{_≡_, refl, sym, _∙_, ap}
 use mathlib.Core.Bool.{Bool, cond}
 use mathlib.Core.List.{List, [], _∷_, _++_, append-assoc, append-nil}
@@ -70,7 +70,7 @@ module _ {X : Type 0} (used : List ℕ → ℕ) (value : List ℕ → X) (line :
       one-left : length before - i ≡ suc (length before - (i + 1))
       one-left = omega arith
 
-      -- no further field stands here
+      -- no further field is present
       pub run-ends : used rest ≡ 0 → Ran i (place - at) out
       run-ends z =
           let k = length before - (i + 1) in
@@ -80,7 +80,7 @@ module _ {X : Type 0} (used : List ℕ → ℕ) (value : List ℕ → X) (line :
           (ap (λ (n : ℕ). fieldsUsed used value n rest) one-left
           ∙ ap (λ (t : Bool). cond t 0 (used rest + fieldsUsed used value k (drop (used rest) rest))) (eq-eqb (used rest) 0 z))
 
-      -- one more does
+      -- one more field is present
       pub run-more : (used rest ≡ 0 → ⊥) → place + used rest ≤ length line → RunTo (i + 1) (place + used rest) (set out i (value rest))
       run-more z room =
           let k = length before - (i + 1) in

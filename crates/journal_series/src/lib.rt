@@ -1,4 +1,4 @@
-// The words and the zone prices of a journal's line, each read one behind another from a place of it on and put at the front of a list.
+// The words and the zone prices of a journal's line, read one after another from a place of it on and put at the front of a list.
 use journal_fields::Price;
 ghost use mathlib.Core.Path.{_≡_};
 ghost use Prim.Native.Nat.{_+_, _≤_};
@@ -9,13 +9,13 @@ ghost use Rattle.journal_fields.specs.JournalFields as rules;
 // The largest number that fits 63 bits beside a sign.
 const PRICE_TOP: u64 = 9_223_372_036_854_775_807;
 
-// Numbers that were read one behind another: how many, and the bytes that they take.
+// Numbers that were read one after another: how many, and the bytes that they take.
 pub struct Run {
     pub count: usize,
     pub used: usize,
 }
 
-// A price of this size, above 0 and below.
+// A price of this size: above 0, and below 0.
 fn above(size: u64) -> i64
     requires { ⌜ size ≤ rules.priceTop ⌝ }
     ensures { λ r. ⌜ r ≡ pos size ⌝ }
@@ -30,7 +30,7 @@ fn below(size: u64) -> i64
     0 - size as i64
 }
 
-// The price at a place behind its space.
+// The price at a place after its space.
 fn price_at(line: &[u8], at: usize) -> Price
     requires { ⌜ at ≤ length (now line) ⌝ }
     ensures price { λ r. ⌜ r ≡ rules.price (drop at (now (line .entry))) ⌝ }
@@ -53,7 +53,7 @@ fn price_at(line: &[u8], at: usize) -> Price
     }
 }
 
-// The words, numbers of 32 bits, at a place, one behind another, put at the front of a list.
+// The words, numbers of 32 bits, at a place, one after another, put at the front of a list.
 pub fn words_at(line: &[u8], at: usize, out: &mut [u32]) -> Run
     requires { ⌜ at ≤ length (now line) ⌝ }
     ensures count { λ r. ⌜ r .count ≡ length (rules.wordsSaid (length (now (out .entry))) (drop at (now (line .entry)))) ⌝ }
@@ -81,7 +81,7 @@ pub fn words_at(line: &[u8], at: usize, out: &mut [u32]) -> Run
     }
 }
 
-// The prices at a place, one behind another, put at the front of a list.
+// The prices at a place, one after another, put at the front of a list.
 pub fn prices_at(line: &[u8], at: usize, out: &mut [i64]) -> Run
     requires { ⌜ at ≤ length (now line) ⌝ }
     ensures count { λ r. ⌜ r .count ≡ length (rules.pricesSaid (length (now (out .entry))) (drop at (now (line .entry)))) ⌝ }

@@ -10,7 +10,7 @@ use borrow.Author.Tests.{ltb-true, lt-ltb}
 use mir.Syntax.{w64}
 use mir.Val.{SFits}
 
--- one step from below 0
+-- a number below 0, one step nearer to 0
 nearer : (n : ℕ) → negsuc n +ℤ pos 1 ≡ negℤ (pos n)
 nearer zero = refl
 nearer (suc n) =
@@ -18,7 +18,7 @@ nearer (suc n) =
     ap (λ (t : Bool). cond t (negsuc (suc (suc n) - 2)) (pos (1 - suc (suc n)))) (lt-ltb 1 (suc (suc n)) (omega arith))
     ∙ ap negsuc same
 
--- and with the other sign
+-- the same with the sign turned
 opposite : (n : ℕ) → pos 0 -ℤ negℤ (pos n) ≡ pos n
 opposite zero = refl
 opposite (suc n) =

@@ -1,5 +1,5 @@
-// Journals run and printed: the lines of some text, each with what stands behind it, and the state. What is printed of a line is
-// `replay::answer_line`'s; these functions only find the lines and write.
+// Journals run and printed: the reply to each line of a text, and then the state. `replay::answer_line` makes the replies; these
+// functions only find the lines and write.
 use libc::STDIN_FILENO;
 use libc::STDOUT_FILENO;
 use market::book::Book;
@@ -22,15 +22,15 @@ const INPUT_BYTES: usize = LINE_BYTES + 1;
 
 const READS: u64 = 18_446_744_073_709_551_615;
 
-// A journal that was run as far as it has whole lines: its state, where the text behind the last of them begins, and whether that text
-// is the rest of a line that is too long.
+// A journal that was run as far as it has whole lines: its state, where the text after the last of them begins, and whether that
+// text is the rest of a line that is too long.
 pub struct Run {
     pub journal: Journal,
     pub at: usize,
     pub over: bool,
 }
 
-// No book yet: what stands for one has no path.
+// No book yet: in its place is a book without paths.
 fn begin() -> Journal {
     let none = Route {
         direction: Direction::Export,
@@ -41,7 +41,7 @@ fn begin() -> Journal {
     Journal { ready: false, book }
 }
 
-// The first bytes of a buffer, written.
+// Writes the first `used` bytes of a buffer.
 fn write(out: &[u8], used: usize) {
     if used <= out.len() {
         io::write_all(STDOUT_FILENO, &out[..used]);
@@ -63,7 +63,7 @@ fn part_read(line: &[u8], over: bool) -> &[u8] {
     line
 }
 
-// One line, and what stands behind it. A line that is too long is one that has not the form, as an empty one is.
+// One line, and the reply to it. A line that is too long is malformed, as an empty one is.
 fn run_line(
     journal: Journal,
     register: &mut [u32],
@@ -186,7 +186,7 @@ fn show_state(journal: Journal, register: &[u32]) {
     show_entries(book.entries, register, &mut out);
 }
 
-// A whole journal. What stands behind its last byte 10 is a line that has not the form.
+// A whole journal. Any text after its last byte 10 is a malformed line.
 pub fn run_text(text: &[u8]) {
     let mut register = [0u32; Engine::REGISTER_WORDS];
     let mut words = [0u32; replay::WORD_ROOM];
@@ -212,7 +212,8 @@ pub fn run_text(text: &[u8]) {
     );
 }
 
-// More of standard input, behind what a buffer is filled with; how many bytes came, 0 at the end of the input or where reading fails.
+// Reads more of standard input after the first `filled` bytes of a buffer; returns how many bytes came, 0 at the end of the input
+// or where reading fails.
 fn read_more(buffer: &mut [u8], filled: usize) -> usize
     requires { ⌜ filled ≤ length (now buffer) ⌝ }
     ensures { λ r. ⌜ filled + r ≤ length (now (buffer .entry)) ⌝ }
@@ -250,7 +251,7 @@ fn run_front(
     )
 }
 
-// The rest of a buffer moved to its front; how many bytes that is.
+// Moves the rest of a buffer to its front; returns how many bytes that is.
 fn keep(buffer: &mut [u8], from: usize, filled: usize) -> usize
     requires { ⌜ (from ≤ filled) × (filled ≤ length (now buffer)) ⌝ }
     ensures { λ r. ⌜ r ≤ filled ⌝ }
@@ -262,7 +263,7 @@ fn keep(buffer: &mut [u8], from: usize, filled: usize) -> usize
     rest
 }
 
-// A line of standard input that ends without its byte 10, where there is one, has not the form; then the state.
+// The end of a journal: a last line without its byte 10, where there is one, is malformed; then the state.
 fn finish(
     journal: Journal,
     register: &mut [u32],
@@ -283,8 +284,8 @@ fn finish(
     show_state(last, register);
 }
 
-// The journal of standard input, read as it comes. A line that fills the buffer is too long, and its bytes are passed over up to the next
-// byte 10. The number of reads is bounded only for the proof that this ends: no input has so many.
+// The journal of standard input, read as it comes. A line that fills the buffer is too long, and its bytes are passed over up to
+// the next byte 10. The number of reads is bounded only for the proof that this ends: no input needs that many.
 pub fn run_input() {
     let mut register = [0u32; Engine::REGISTER_WORDS];
     let mut words = [0u32; replay::WORD_ROOM];

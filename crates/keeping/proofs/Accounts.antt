@@ -1,4 +1,4 @@
--- Where disburse leaves the reserve, or recover stays below 0, a sound account stays sound.
+-- Where disburse leaves at least the reserve, or recover leaves 0 or less, a sound account stays sound.
 use mathlib.Core.Path.{_≡_, refl}
 use mathlib.Core.Bool.{Bool, true, false, cond, false≢true}
 use Prim.Native.Nat.{ℕ, zero, suc, _+_, _-_, _≤_}
@@ -12,7 +12,7 @@ use Rattle.market.proofs.Tests.{left-true}
 use Rattle.market.specs.Limits.{accountLimit, reserve}
 use Rattle.market.specs.Sound.{soundAccount}
 
--- a balance at or above 0, and one below
+-- when a balance at or above 0 is sound, and when one below 0 is
 above-sound : (a : ℕ) → a ≤ accountLimit → soundAccount (pos a) ≡ true
 above-sound a h = le-leb a accountLimit h
 
@@ -25,7 +25,7 @@ above-limit a h = leb-true a accountLimit h
 below-limit : (a : ℕ) → soundAccount (negsuc a) ≡ true → a ≤ accountLimit - 1
 below-limit a h = leb-true a (accountLimit - 1) (left-true (leb a (accountLimit - 1)) true h)
 
--- what is taken leaves the reserve
+-- what is taken leaves at least the reserve
 reserved : (t : Bool) (a m : ℕ) → m ≤ accountLimit → leZ (pos reserve) (cond t (negsuc a) (pos m)) ≡ true → soundAccount (cond t (negsuc a) (pos m)) ≡ true
 reserved true a m most h = absurd (false≢true h)
 reserved false a m most h = above-sound m most

@@ -67,7 +67,7 @@ defaulted-within x p =
       step = omega arith;
     }
 
--- what the bidder keeps, the forfeit and the draw
+-- what the bidder keeps and the forfeit are together what it held and the draw
 forfeited : (held forfeit : ℕ) → held - forfeit + 0 + forfeit ≡ held + (forfeit - held)
 forfeited held forfeit = omega arith
 

@@ -25,7 +25,7 @@ use Rattle.keeping.proofs.Sums.{held-after, held-more, held-less}
 use Rattle.keeping.specs.Money.{heldByAll, cashOf, Moved, ifAnswered}
 use Rattle.keeping.specs.State.{State}
 
--- neither changes what the round asks of a bidder
+-- neither changes what soundness at a round requires of a bidder
 credited-at : (round : ℕ) (x : Bidder) (to : Funds) (amount : Cents) → AtRound round x → AtRound round (credited x to amount)
 credited-at round x Cash amount h = record { one = h .one; two = h .two }
 credited-at round x Letter amount h = record { one = h .one; two = h .two }
@@ -87,7 +87,7 @@ module _ (b : Book) (words : List ℕ) (i : ℕ) (funds : Funds) (amount : Cents
       (debited-at (roundOf (b .stage)) (bidderOf b i) funds amount (at-round (roundOf (b .stage)) (bidderOf b i) (bidder-sound b i (state .sound))))
       (debited-within (bidderOf b i) funds amount (clear .0 .bounds) (clear .1))))
 
-  -- cash comes in with a deposit, and goes out with a withdrawal; a letter is no money
+  -- cash comes in with a deposit, and goes out with a withdrawal; a letter is not money
   pub deposit-money : Moved b (deposit b i funds amount .book) (ifAnswered (deposit b i funds amount .answer) (cashOf funds amount)) 0
   unfolding deposit
   deposit-money =

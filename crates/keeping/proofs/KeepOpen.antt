@@ -37,14 +37,14 @@ use Rattle.keeping.specs.State.{State}
 
 -- ---- Lists
 
--- one element more is set behind first ones that pass a test
+-- one element more that passes a test, set after first ones that pass it
 pub every-next : {A : Type 0} (test : A → Bool) (l : List A) (k : ℕ) (v : A) → every test (take k l) ≡ true → test v ≡ true → every test (take (suc k) (set l k v)) ≡ true
 every-next test [] k v h e = refl
 every-next test (x ∷ l) zero v h e = both-true e refl
 every-next test (x ∷ l) (suc k) v h e =
     both-true (left-true (test x) (every test (take k l)) h) (every-next test l k v (right-true (test x) (every test (take k l)) h) e)
 
--- what follows from two tests
+-- where a third test follows from two, it holds of each element
 every-two : {A : Type 0} (f g h : A → Bool) → ((x : A) → f x ≡ true → g x ≡ true → h x ≡ true) → (l : List A) → every f l ≡ true → every g l ≡ true → every h l ≡ true
 every-two f g h follows [] p q = refl
 every-two f g h follows (x ∷ l) p q =

@@ -1,5 +1,5 @@
--- Laws about what the calls keep: `..-keeps`, a sound state stays sound; `..-money`, the money in the book differs by what came in
--- and what went out; `..-refused`, a refused call changes nothing.
+-- Laws about what the calls keep: `..-keeps`, a sound state stays sound; `..-money`, the money in the book differs by what
+-- came in and what went out; `..-refused`, a refused call changes nothing.
 pub mod Accounts
 pub mod KeepDefault
 pub mod KeepFunding

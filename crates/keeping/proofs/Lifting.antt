@@ -10,12 +10,12 @@ use Rattle.market.specs.declared.answer.Outcome.{Outcome}
 use Rattle.market.specs.declared.book.Book.{Book}
 use Rattle.keeping.specs.Money.{worth, Moved, ifAnswered, drawIn}
 
--- of the book
+-- a fact of the book
 pub book-kept : (P : Book → Type 0) (b : Book) (n : ℕ) (taken : Outcome) → P b → (n ≡ 0 → P (taken .book)) → P (decided b n taken .book)
 book-kept P b zero taken before after = after refl
 book-kept P b (suc n) taken before after = before
 
--- of the book and of what is lent with it
+-- a fact of the book and of what is lent with it
 pub both-kept : (P : Book → List ℕ → Type 0) (b : Book) (words : List ℕ) (n : ℕ) (taken : Outcome) (left : List ℕ) → P b words → (n ≡ 0 → P (taken .book) left) → P (decided b n taken .book) (decidedList words n left)
 both-kept P b words zero taken left before after = after refl
 both-kept P b words (suc n) taken left before after = before

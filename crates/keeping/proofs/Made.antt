@@ -52,7 +52,7 @@ state-lent {b} {words} s =
 pub lent-state : {b : Book} {words : List ℕ} → Lent b words → length (b .bidders) ≡ bidderLimit → State b words
 lent-state l all = record { long = l .long; sound = l .sound; entries = l .entries; bidders = all }
 
--- another sound bidder at a number
+-- replacing a bidder by a sound one keeps a state sound
 pub bidder-kept : (b : Book) (words : List ℕ) (i : ℕ) (x : Bidder) → State b words → soundBidder (roundOf (b .stage)) x ≡ true → State (withBidder b i x) words
 bidder-kept b words i x s h =
     let p = sound-parts b (s .sound) in
@@ -72,7 +72,7 @@ bidder-kept b words i x s h =
       bidders = length-set (b .bidders) i x ∙ s .bidders;
     }
 
--- another sound account
+-- and so does replacing the account by a sound one
 pub account-kept : (b : Book) (words : List ℕ) (z : ℤ) → State b words → soundAccount z ≡ true → State (withAccount b z) words
 account-kept b words z s h =
     let p = sound-parts b (s .sound) in

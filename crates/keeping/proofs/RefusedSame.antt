@@ -1,4 +1,5 @@
--- "A refusal returns its number; nothing lent or held differs afterwards": of each call, the book, and what it is lent to write.
+-- "A refusal returns its number; nothing lent or held differs afterwards": for each call, of the book and of what it is lent
+-- to write.
 use mathlib.Core.Path.{_≡_, refl}
 use mathlib.Core.Bool.{Bool}
 use mathlib.Core.List.{List, _++_, map}

@@ -21,7 +21,7 @@ use Rattle.register.specs.declared.Removal.{Removal}
 use Rattle.keeping.proofs.Made.{sound-made}
 use Rattle.keeping.specs.State.{State}
 
--- no more entries than before, each of them sound, written from the front
+-- sound entries, no more of them than before, written from the front, keep a state sound
 pub register-kept : (b : Book) (words : List ℕ) (es : List Entry) (n : ℕ) → State b words → length es ≡ n → n ≤ b .entries → every (soundEntry (b .«path_count»)) es ≡ true → State (withEntries b n) (written words es)
 register-kept b words es n s count fewer sound =
     let p = sound-parts b (s .sound) in
@@ -64,7 +64,7 @@ issued-sound paths bidder e h = go (eqb (e .bidder) bidder)
     go true = issued-state paths e h
     go false = h
 
--- entries that stay where others are removed
+-- where each entry passes a test, so does each entry that stays when some are removed
 pub every-without : (test : Entry → Bool) (what : Removal) (es : List Entry) → every test es ≡ true → every test (without what es) ≡ true
 every-without test what [] h = refl
 every-without test what (e ∷ es) h =

@@ -17,6 +17,6 @@ register-silent b words s =
     ap₂ (λ (short sound : Bool). cond short 1 (cond (not sound) 2 0))
     (le-ltb (length words) registerWords (s .long)) (ap₂ _&&_ (s .sound) (s .entries))
 
--- so the rows behind them decide, in every call that is lent the register
+-- so the rows after them decide, in every call that is lent the register
 pub own-rows-decide : (b : Book) (words : List ℕ) (rows : List Row) → State b words → firstOf (registerRefusals b words ++ rows) ≡ firstOf rows
 own-rows-decide b words rows s = second-decides (registerRefusals b words) rows refl (register-silent b words s)

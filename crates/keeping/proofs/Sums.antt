@@ -12,7 +12,7 @@ use Rattle.market.specs.declared.book.Book.{Book}
 use Rattle.keeping.specs.Money.{heldByAll}
 use Rattle.keeping.specs.State.{State}
 
--- another bidder at a number changes the cash held by as much
+-- replacing a bidder changes the cash held by the difference of the two
 pub held-set : (l : List Bidder) (i : ℕ) (x : Bidder) → i < length l → heldByAll (set l i x) + heldOf (getD l i noBidder) ≡ heldByAll l + heldOf x
 held-set [] i x h = absurd (none h)
   where
@@ -21,7 +21,7 @@ held-set [] i x h = absurd (none h)
 held-set (y ∷ l) zero x h = omega arith
 held-set (y ∷ l) (suc i) x h = omega (arith, held-set l i x (omega arith))
 
--- so it does in a sound state, at the number of a bidder
+-- the same in a sound state, at any number of a bidder
 pub held-after : (b : Book) (words : List ℕ) → State b words → (i : ℕ) (x : Bidder) → i < bidderLimit → heldByAll (set (b .bidders) i x) + heldOf (bidderOf b i) ≡ heldByAll (b .bidders) + heldOf x
 held-after b words state i x h = held-set (b .bidders) i x (omega (arith, state .bidders))
 

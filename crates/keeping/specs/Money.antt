@@ -29,7 +29,7 @@ worth b = pos (cashHeld b) +ℤ b .account .0
 abbrev pub Moved : Book → Book → ℕ → ℕ → Type 0
 Moved before after into out = worth after ≡ worth before +ℤ pos into -ℤ pos out
 
--- an amount that moves only where there is no refusal's number
+-- an amount that moves only if the number of the refusal is 0, which is none
 abbrev pub unlessRefused : ℕ → ℕ → ℕ
 unlessRefused zero amount = amount
 unlessRefused (suc number) amount = 0
@@ -42,7 +42,7 @@ ifAnswered answer amount = unlessRefused (answerNumber answer) amount
 abbrev pub drawIn : Answer → ℕ
 drawIn answer = getD (answerValues answer) 0 0
 
--- the part of a deposit or of a withdrawal that is money: a letter is none
+-- the part of a deposit or of a withdrawal that is money: a letter is not money
 abbrev pub cashOf : Funds → Cents → ℕ
 cashOf Cash amount = amount .0
 cashOf Letter amount = 0

@@ -1,4 +1,4 @@
--- A sound state: the book and the register that belongs to it. The calls that are lent the register test all of it but the
+-- A sound state: the book and the register that belongs to it. The calls that are lent the register test all of it except the
 -- number of bidders, which the book's type fixes.
 use mathlib.Core.Path.{_≡_}
 use mathlib.Core.Bool.{true}

@@ -1,4 +1,5 @@
--- A bidder's charges in a round are within its bidding limit: along the bids in order, what is charged is at most what is admitted.
+-- A bidder's charges in a round are within its bidding limit: along the bids in order, what is charged is at most what is
+-- admitted.
 use mathlib.Core.Path.{_≡_, refl, sym, _∙_, ap, subst}
 use mathlib.Core.Bool.{Bool, true, false, cond}
 use mathlib.Core.List.{List, [], _∷_}
@@ -27,7 +28,7 @@ use Rattle.round.specs.Round.{offeredNow, awardsNow, wonNow, pricesNow}
 
 -- ---- Amounts by bidder
 
--- each amount is at most the other's
+-- each amount of the first list is at most that of the second
 abbrev pub Under : List ℕ → List ℕ → Type 0
 Under l m = (i : ℕ) → getD l i 0 ≤ getD m i 0
 
@@ -74,7 +75,7 @@ used-length limits used b = go (admits limits used b)
     go true = length-set used (b .bidder) (getD used (b .bidder) 0 + bidValue b)
     go false = refl
 
--- and what is charged of it at most what is admitted
+-- and what is charged stays at most what is admitted
 charge-under : (limits amounts used : List ℕ) (b : Bid) (charge : ℕ) → length amounts ≡ length used → Under amounts used → charge ≤ cond (admits limits used b) (bidValue b) 0 → Under (credit amounts (b .bidder) charge) (usedAfter limits used b)
 charge-under limits amounts used b charge same h most = go (admits limits used b) most
   where
@@ -128,7 +129,7 @@ pub all-bids : (P : ℕ → Bid → Type 0) (bs : List Bid) (d : Bid) → ((k : 
 all-bids P bs d h =
     each-bid P 0 bs d (λ k inside. subst (λ (i : ℕ). P i (getD bs k d)) (let e : k ≡ 0 + k = omega arith in e) (h k inside))
 
--- what is filled of a bid is worth at most all of it
+-- the value of what is filled of a bid is at most the value of the whole bid
 filled-within : (won : ℕ) (ls : List Lamination) → filledValue won ls ≤ laminationsValue ls
 filled-within won [] = omega arith
 filled-within won (l ∷ ls) =

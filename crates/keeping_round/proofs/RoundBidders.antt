@@ -28,13 +28,13 @@ use Rattle.keeping_round.proofs.RoundPaths.{Stages}
 
 -- ---- A bidder
 
--- with no value nothing is owed
+-- before the first round no bidder has a value, so nothing is owed
 none-owed : (round : ℕ) (x : Bidder) → round ≡ 1 → AtRound round x → x .owed .0 ≡ 0
 none-owed round x one h =
     let none : x .applied .0 + x .owed .0 ≡ 0 = eqb-true (valueOf x) 0 (ap (λ (n : ℕ). eqb n 1 implies noValue x) (sym one) ∙ h .one) in
     omega (arith, none)
 
--- before a round of either number at most 2×10^13 is owed
+-- before either round at most 2×10^13 is owed
 owed-before : (kind : Kind) (round : ℕ) (x : Bidder) → soundRound kind round ≡ true → AtRound round x → x .owed .0 ≤ roundTwoOwedLimit
 owed-before Short round x sound h = omega (arith, none-owed round x (eqb-true round 1 sound) h)
 owed-before Long round x sound h = go (eqb round 1) (eqb round 2) refl refl sound
@@ -55,7 +55,7 @@ swept-within x charges p owed most =
       step = p .step;
     }
 
--- what the next round asks
+-- what soundness at the next round requires of a billed bidder
 swept-at : (next : ℕ) (x : Bidder) (charges : ℕ) → eqb next 1 ≡ false → (eqb next 2 ≡ true → x .owed .0 ≡ 0) → charges ≤ biddingLimitTop → AtRound next (swept x charges)
 swept-at next x charges not-one first most =
     record {

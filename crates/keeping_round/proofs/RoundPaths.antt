@@ -79,7 +79,7 @@ none-yet round p one h =
     eqb-true (p .sold .0) 0
     (ap (λ (n : ℕ). eqb n 1 implies eqb (p .sold .0) 0) (sym one) ∙ h .start)
 
--- a round offers no more than is not sold
+-- a round offers no more than what is not yet sold
 offer-fits : (kind : Kind) (round : ℕ) (p : Path) → soundRound kind round ≡ true → PathBounds round p → p .sold .0 + offeredIn kind round p ≤ p .offer .0
 offer-fits Short round p sound h = omega (arith, none-yet round p (eqb-true round 1 sound) h)
 offer-fits Long round p sound h = go (eqb round 1) refl
@@ -118,14 +118,14 @@ none-offered Long round = go (eqb round 1)
     go true = refl
     go false = refl
 
--- the first paths have sold, and are sound
+-- the first `n` paths have sold, and are sound
 paths-sell : (next : ℕ) (slots : List Path) (sold : List ℕ) (n : ℕ) → ((i : ℕ) → i < n → soundPath next (withSold (getD slots i noPath) (getD sold i 0)) ≡ true) → every (soundPath next) (take n (soldTo slots sold n)) ≡ true
 paths-sell next slots sold zero each = refl
 paths-sell next slots sold (suc n) each =
     every-next (soundPath next) (soldTo slots sold n) n (withSold (getD slots n noPath) (getD sold n 0))
     (paths-sell next slots sold n (λ (i : ℕ) (below : i < n). each i (omega arith))) (each n (le-refl (suc n)))
 
--- where each path sold at most what the round offered
+-- all paths are sound after the round, where each sold at most what the round offered
 pub paths-sold : (stage : Stage) (slots : List Path) (sold : List ℕ) (count room : ℕ) → Stages stage → every (soundPath (roundOf stage)) (take count slots) ≡ true → ((i : ℕ) → getD sold i 0 ≤ getD (map (offeredIn (kindOf stage) (roundOf stage)) (take count slots) ++ replicate room 0) i 0) → every (soundPath (roundOf (stageAfter stage))) (take count (soldTo slots sold count)) ≡ true
 paths-sold stage slots sold count room s sound most =
     let kind = kindOf stage in

@@ -66,17 +66,17 @@ same-words m line room stood same = (
   ap (λ (j : Journal). j .book .account .0) same,
 )
 
--- the empty line has not the form
+-- the empty line is malformed
 empty-away : (j : Journal) (register : List ℕ) → lineStep j register [] ≡ turnedAway j register
 unfolding lineStep lineSaid verbAt laterVerb lastVerb
 empty-away j register = refl
 
--- so a line longer than a line may be is refused with 40, and changes nothing
+-- so a line that is too long is refused with 40, and changes nothing
 pub long-away : (j : Journal) (register line : List ℕ) → lineBytes < length line → lineStep j register (taken line) ≡ turnedAway j register
 long-away j register line h =
     ap (λ (t : Bool). lineStep j register (cond t [] line)) (lt-ltb lineBytes (length line) h) ∙ empty-away j register
 
--- ---- A book is there just where it has a path
+-- ---- There is a book exactly where it has a path
 
 abbrev Ready : Journal → Type 0
 Ready j = j .ready ≡ not (eqb (j .book .«path_count») 0)

@@ -20,7 +20,7 @@ use Rattle.kept_lines.specs.KeptLines.{Memory, Returned, short, taken, r
 
 -- ---- Room
 
--- words laid into the first part of a list are put into the list
+-- words written to the first part of a list are written to the list
 pub laid-part : (own list : List ℕ) (n : ℕ) → n ≤ length list → length (laid own (take n list)) ≡ n → laid own (take n list) ++ drop n list ≡ putAt list 0 own
 laid-part own list n room long =
     let first = take n list in
@@ -65,7 +65,7 @@ module _ (m : Memory) (line : List ℕ) where
   unfolding lineOn
   line-short h = rw h
 
-  -- no book is laid in the words
+  -- the words encode no book
   pub line-unsound : isShort ≡ false → stands (m .book) ≡ false → _≡_ {A = Returned} (record { number = 2; memory = m }) (lineOn m line)
   unfolding lineOn
   line-unsound h s = rw (h, s)

@@ -17,8 +17,8 @@ use Rattle.replay.specs.declared.Journal.{Journal}
 
 -- ---- A line of a journal
 
--- what a program keeps and lends for its lines: the book's words, the account, the register, room for a line's own words, a buffer for what is
--- printed, and the count of bytes printed
+-- what a program keeps and lends for its lines: the book's words, the account, the register, room for a line's own words, a
+-- buffer for the reply, and the count of the reply's bytes
 pub record Memory : Type 0 where
   pub book : List ℕ
   pub account : ℤ
@@ -36,21 +36,21 @@ abbrev pub lent : List ℕ → ℤ → List ℕ → List ℕ → List ℕ → �
 lent book account register room out used =
     record { book = book; account = account; register = register; room = room; out = out; used = used }
 
--- one of the four buffers, the book's words, the register, the room and the buffer for what is printed, is shorter than stated
+-- one of the four buffers is shorter than stated: the book's words, the register, the room or the buffer for the reply
 abbrev pub short : List ℕ → List ℕ → List ℕ → List ℕ → Bool
 short book register room out =
     ltb (length book) bookSize
     || (ltb (length register) registerWords || (ltb (length room) wordRoom || ltb (length out) replyRoom))
 
--- 1 a lent buffer shorter than stated; 2 words that no book is laid in
+-- 1: a lent buffer is shorter than stated; 2: the words encode no book
 abbrev pub lineRefusals : Memory → List Row
 lineRefusals m =
     (short (m .book) (m .register) (m .room) (m .out) gives 1)
     ∷ (not (stands (m .book)) gives 2)
     ∷ []
 
--- docs/JOURNAL.md, "A line that has not this form is refused with 40": a longer line than one may be is taken as the empty one, which has not
--- the form either
+-- docs/JOURNAL.md, "A line that has not this form is refused with 40": a line that is too long is taken as the empty one, which
+-- is malformed too
 abbrev pub taken : List ℕ → List ℕ
 taken line = cond (ltb lineBytes (length line)) [] line
 
@@ -58,7 +58,7 @@ taken line = cond (ltb lineBytes (length line)) [] line
 abbrev pub journalOf : Book → Journal
 journalOf b = record { ready = not (eqb (b .«path_count») 0); book = b }
 
--- words hold a journal's state: they stand, and it is the state that they are read as
+-- words hold a journal's state: they encode a book, and it is the state that they are read as
 pub record HeldIn (book : List ℕ) (account : ℤ) (j : Journal) : Type 0 where
   pub stood : stands book ≡ true
   pub read : journalOf (bookIn book account) ≡ j
@@ -67,7 +67,7 @@ pub record HeldIn (book : List ℕ) (account : ℤ) (j : Journal) : Type 0 where
 abbrev pub stepOn : Memory → List ℕ → Stepped
 stepOn m line = lineStep (journalOf (bookIn (m .book) (m .account))) (m .register) line
 
--- a line that was run: the state after it, its own words in the room, and what is printed at the front of the buffer
+-- a line that was run: the state after it, its own words in the room, and the reply at the front of the buffer
 abbrev pub leftBy : Memory → List ℕ → Stepped → Memory
 leftBy m line step =
     record {
@@ -128,7 +128,8 @@ abbrev pub linesBy : State → List Given → State
 linesBy s [] = s
 linesBy s (g ∷ gs) = linesBy (stateAfter (lineStep (s .journal) (s .register) (taken (g .line)))) gs
 
--- what a machine's memory is sure of at each of these lines: the buffers are as long as stated, and the book after it fits its fields
+-- what is certain in a machine's memory at each of these lines: the buffers are as long as stated, and the book after the line
+-- fits its fields
 pub record Sized (s : State) (g : Given) : Type 0 where
   pub register : registerWords ≤ length (s .register)
   pub room : wordRoom ≤ length (g .room)

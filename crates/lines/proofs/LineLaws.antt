@@ -21,7 +21,7 @@ use Rattle.lines.specs.Lines.{behind, titleWord, kindByte, isKind, kindP
 use Rattle.lines.specs.declared.part.Part.{Part}
 use Rattle.lines.specs.declared.part.Part.the-variants.{Bidders, Paths, Bids}
 
--- ---- One of two letters, and the space behind it
+-- ---- One of two letters, and the space after it
 
 module _ (bytes : List ℕ) (at one other : ℕ) where
   abbrev letter : ℕ
@@ -88,7 +88,7 @@ module _ (bytes : List ℕ) where
   pub title-here : worded ≡ true → kinded ≡ true → (n : ℕ) → n ≡ days → both daysPlace n ≡ titleUsed bytes
   title-here w e n is = ap (both daysPlace) is ∙ sym (title-decides w true e)
 
--- ---- A count behind a word
+-- ---- A count after a word
 
 module _ (bytes : List ℕ) (at : ℕ) (word : List ℕ) where
   abbrev text : List ℕ
@@ -178,7 +178,7 @@ bid-here bytes at head first pairs count n rest =
 
 -- ---- A line of a section
 
--- a line that stands asks little more of the next one than was asked of it
+-- a line that is not faulty asks of the next one at most `bidderLimit` more than was asked of it
 pub line-next : (part : Part) (state : ℕ) (text : List ℕ) → 1 ≤ lineAt part state text .used → lineAt part state text .next ≤ state + bidderLimit
 line-next Bidders state text some = go (low && high) refl some
   where

@@ -1,5 +1,5 @@
--- Document 01, "Sheets", "Fields: ..": each line of a sheet at the front of a text, by the bytes that it takes, its byte 10 included; 0
--- where the line is faulty or missing.
+-- Document 01, "Sheets", "Fields: ..": each line of a sheet at the front of a text, by the bytes that it takes, its byte 10
+-- included; 0 if the line is faulty or missing.
 use mathlib.Core.Bool.{Bool, true, false, cond, _&&_, _||_}
 use mathlib.Core.List.{List, [], _∷_}
 use Prim.Native.Nat.{ℕ, _+_, _*_}
@@ -16,7 +16,7 @@ use Rattle.lines.specs.declared.part.Part.{Part}
 use Rattle.lines.specs.declared.part.Part.the-variants.{Bidders, Paths, Bids}
 use Rattle.lines.specs.declared.part.Step.{Step}
 
--- bytes that must stand at the front, and what stands behind them
+-- the bytes of a word that must be at the front, and of what follows it: 0 if one of them is missing
 abbrev pub behind : Bool → ℕ → ℕ → ℕ
 behind stands word used = cond stands (both word used) 0
 
@@ -30,7 +30,7 @@ abbrev pub kindByte : Kind → ℕ
 kindByte Short = 83
 kindByte Long = 76
 
--- a kind and the space behind it
+-- whether a byte is that of a kind
 abbrev pub isKind : ℕ → Bool
 isKind c = eqb c (kindByte Short) || eqb c (kindByte Long)
 
@@ -41,7 +41,7 @@ longIf false = Short
 abbrev pub kindOf : ℕ → Kind
 kindOf c = longIf (eqb c (kindByte Long))
 
--- where the kind stands, behind the title, and where the days do, behind the kind and a space
+-- the place of the kind, after the title's word and a space, and that of the days, after the kind and a space
 abbrev pub kindPlace : ℕ
 kindPlace = 4
 
@@ -61,7 +61,7 @@ partWord Bidders = 98 ∷ 105 ∷ 100 ∷ 100 ∷ 101 ∷ 114 ∷ 115 ∷ []
 partWord Paths = 112 ∷ 97 ∷ 116 ∷ 104 ∷ 115 ∷ []
 partWord Bids = 98 ∷ 105 ∷ 100 ∷ 115 ∷ []
 
--- where its count stands
+-- the place of its count
 abbrev pub countPlace : Part → ℕ
 countPlace part = length (spaced (partWord part))
 
@@ -102,7 +102,7 @@ pathUsed number text =
 
 -- ---- "bids as above, a line having just its n pairs": bidder, path, stamp, n, and n pairs of price and MW
 
--- how many numbers stand from n on
+-- how many numbers there are from n on
 abbrev pub fromCount : List ℕ → ℕ
 fromCount text = 1 + 2 * numberAt text .value
 
@@ -113,8 +113,8 @@ bidUsed text =
 
 -- ---- A line of a section
 
--- what the lines before it ask of it: the least number that a bidder's line may have, the number of a path's; and what it asks of
--- the next line
+-- a line, where `state` is what the lines before it ask of it: the least number that a bidder's line may have, or the number that
+-- a path's line must have; and what it asks of the next line
 abbrev pub lineAt : Part → ℕ → List ℕ → Step
 lineAt Bidders state text =
     record { used = bidderUsed state text; next = fieldAt amountTop space text .value + 1 }

@@ -1,4 +1,4 @@
-// The lines of a sheet, each read at a place of its text: the bytes that it takes, its byte 10 included, and 0 where it is faulty.
+// The lines of a sheet, each read at a place of its text: the bytes that it takes, its byte 10 included, or 0 if it is faulty.
 pub mod part;
 
 use fields::Field;
@@ -20,7 +20,7 @@ const EXPORT: u8 = 88;
 
 pub const IMPORT: u8 = 77;
 
-// The bytes of two parts, the second behind the first; 0 where one does not stand.
+// The bytes of two parts, the second after the first: 0 if one of them is missing.
 fn both(first: usize, second: usize) -> usize
     requires { ⌜ first + second < 2 ^ 64 ⌝ }
     ensures { λ r. ⌜ r ≡ bothUsed first second ⌝ }
@@ -34,7 +34,7 @@ fn both(first: usize, second: usize) -> usize
     first + second
 }
 
-// Whether one of two letters stands at a place, and a space behind it.
+// Whether one of two letters is at a place, with a space after it.
 fn letter_at(bytes: &[u8], at: usize, one: u8, other: u8) -> bool
     requires { ⌜ at ≤ length (now bytes) ⌝ }
     ensures { λ r. ⌜ r ≡ ((eqb (getD (now (bytes .entry)) at 0) one || eqb (getD (now (bytes .entry)) at 0) other)
@@ -69,7 +69,7 @@ pub fn title_used(bytes: &[u8]) -> usize
     )
 }
 
-// A count behind the word of its section.
+// A count after the word of its section.
 fn count_behind(bytes: &[u8], at: usize, word: &[u8]) -> Field
     requires { ⌜ at ≤ length (now bytes) ⌝ }
     ensures used { λ r. ⌜ r .used ≡ behind (startsWith (now (word .entry)) (drop at (now (bytes .entry)))) (length (now (word .entry)))
@@ -107,7 +107,7 @@ pub fn count_line(bytes: &[u8], at: usize, part: Part) -> Field
     }
 }
 
-// A path's line behind its number: direction, zone, base, FUL, A and B.
+// A path's line after its number: direction, zone, base, FUL, A and B.
 fn route_used(bytes: &[u8], at: usize) -> usize
     requires { ⌜ at ≤ length (now bytes) ⌝ }
     ensures route { λ r. ⌜ r ≡ routeUsed (drop at (now (bytes .entry))) ⌝ }
@@ -122,7 +122,7 @@ fn route_used(bytes: &[u8], at: usize) -> usize
     )
 }
 
-// A path's line, which has the number given.
+// A path's line, which must have the number given.
 pub fn path_used(bytes: &[u8], at: usize, number: u64) -> usize
     requires { ⌜ at ≤ length (now bytes) ⌝ }
     ensures path { λ r. ⌜ r ≡ pathUsed number (drop at (now (bytes .entry))) ⌝ }

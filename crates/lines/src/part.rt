@@ -7,7 +7,7 @@ pub enum Part {
     Bids,
 }
 
-// A line that was read: the bytes that it takes, 0 where it is faulty, and what it asks of the next line.
+// A line that was read: the bytes that it takes, 0 if it is faulty, and what it asks of the next line.
 pub struct Step {
     pub used: usize,
     pub next: u64,

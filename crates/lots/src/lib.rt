@@ -31,7 +31,7 @@ fn pack(bid: usize, path: u32, place: usize) -> u32
     (of * Engine::BID_LIST_WORDS + place) as u32
 }
 
-// The place of the pair of a lot in a word of the scratch.
+// The place, in the bid list, of the pair of the lot in a word of the scratch.
 fn place_in(word: u32) -> usize
     ensures { λ r. ⌜ r ≡ placeIn word ⌝ }
 {
@@ -59,7 +59,7 @@ pub fn lot_in(words: &[u32], word: u32) -> Lot
     }
 }
 
-// Puts so many lots of one bid at the front of `order`; `place` is that of the first one's pair.
+// Puts `count` lots of one bid at the front of `order`; `place` is the place of the first lot's pair.
 fn put_lots(bid: usize, path: u32, place: usize, count: usize, order: &mut [u32])
     requires { ⌜ bid < bidLimit ⌝ }
     requires { ⌜ path < pathLimit ⌝ }
@@ -75,7 +75,7 @@ fn put_lots(bid: usize, path: u32, place: usize, count: usize, order: &mut [u32]
     }
 }
 
-// Puts the lots of the bid at a place at the front of `order`, where the bid is admitted, and tells how many they are.
+// Puts the lots of the bid that begins at `at` at the front of `order`, if the bid is admitted, and returns their number.
 pub fn put_bid(words: &[u32], marks: &[u32], bid: usize, at: usize, order: &mut [u32]) -> usize
     requires { ⌜ length (now words) ≤ bidListWords ⌝ }
     requires { ⌜ bidLimit ≤ length (now marks) ⌝ }

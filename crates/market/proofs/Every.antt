@@ -12,19 +12,19 @@ pub both-true : {s t : Bool} → s ≡ true → t ≡ true → (s && t) ≡ true
 both-true p q = ap₂ _&&_ p q
 
 module _ {A : Type 0} (test : A → Bool) where
-  -- what passes a test, read at any place: past the end stands what is given for there
+  -- if every element passes the test, so does what is read at any index; past the end that is the default, which passes too
   pub every-at-any : (l : List A) (i : ℕ) (d : A) → every test l ≡ true → test d ≡ true → test (getD l i d) ≡ true
   every-at-any [] i d h e = e
   every-at-any (x ∷ l) zero d h e = left-true (test x) (every test l) h
   every-at-any (x ∷ l) (suc i) d h e = every-at-any l i d (right-true (test x) (every test l) h) e
 
-  -- and at any place within the list
+  -- if every element passes the test, so does the element at an index within the list
   pub every-within : (l : List A) (i : ℕ) (d : A) → i < length l → every test l ≡ true → test (getD l i d) ≡ true
   every-within [] i d below h = absurd (let no-place : ⊥ = omega arith in no-place)
   every-within (x ∷ l) zero d below h = left-true (test x) (every test l) h
   every-within (x ∷ l) (suc i) d below h = every-within l i d (omega arith) (right-true (test x) (every test l) h)
 
-  -- what passes it at each place
+  -- a list passes the test if the element at each index does
   pub every-all : (l : List A) (d : A) → ((i : ℕ) → i < length l → test (getD l i d) ≡ true) → every test l ≡ true
   every-all [] d h = refl
   every-all (x ∷ l) d h = both-true (h zero (omega arith)) (every-all l d (λ i below. h (suc i) (omega arith)))
@@ -51,7 +51,7 @@ module _ {A : Type 0} (test : A → Bool) where
   every-set (y ∷ l) (suc i) x h e =
       both-true (left-true (test y) (every test l) h) (every-set l i x (right-true (test y) (every test l) h) e)
 
--- a test that follows from another, over the images of a list
+-- if the image of each element that passes one test passes another, so do the images of a list
 pub every-map : {A B : Type 0} (f : A → B) (test : B → Bool) (given : A → Bool) → ((a : A) → given a ≡ true → test (f a) ≡ true) → (l : List A) → every given l ≡ true → every test (map f l) ≡ true
 every-map f test given follows [] h = refl
 every-map f test given follows (x ∷ l) h =

@@ -7,7 +7,7 @@ use native.Mathlib.Omega.{arith}
 use lib.ListN.{length, getD, take, set, replicate, length-map}
 use lib.Seq.{length-take-le, take-all, take-suc, set-at}
 
--- the images of a list with one element more
+-- the images of a list with one more element
 pub map-snoc : {A B : Type 0} (f : A → B) (l : List A) (a : A) → map f (l ++ (a ∷ [])) ≡ map f l ++ (f a ∷ [])
 map-snoc f [] a = refl
 map-snoc f (x ∷ l) a = ap (f x ∷_) (map-snoc f l a)
@@ -21,7 +21,7 @@ zeros-at zero k = refl
 zeros-at (suc n) zero = refl
 zeros-at (suc n) (suc k) = zeros-at n k
 
--- storing the next element behind the first ones, where blanks fill the list up to `n`
+-- storing the next element after the first ones, where blanks fill the list up to length `n`
 pub fill-snoc : {A : Type 0} (front : List A) (n k : ℕ) (blank x : A) → length front ≡ k → k < n → set (front ++ replicate (n - k) blank) k x ≡ (front ++ (x ∷ [])) ++ replicate (n - (k + 1)) blank
 fill-snoc {A} front n k blank x long below =
     let left : n - k ≡ suc (n - (k + 1)) = omega arith in

@@ -94,7 +94,7 @@ at-round round x h = bidder-parts round x h .0
 pub bidder-bounds : (round : ℕ) (x : Bidder) → soundBidder round x ≡ true → BidderBounds x
 bidder-bounds round x h = bidder-parts round x h .1
 
--- a bidder with nothing is sound at every round, and so every number of a sound book has a sound bidder
+-- a bidder with nothing is sound at every round, so in a sound book the bidder with any number is sound
 pub nothing-sound : (round : ℕ) → soundBidder round noBidder ≡ true
 nothing-sound round = simp or-true
 
@@ -103,11 +103,11 @@ bidder-sound b i h =
     let round = roundOf (b .stage) in
     every-at-any (soundBidder round) (b .bidders) i noBidder (sound-parts b h .bidders) (nothing-sound round)
 
--- bidders within the bounds, at every number
+-- the bidder with any number is within the bounds
 abbrev pub AllWithin : List Bidder → Type 0
 AllWithin bidders = (i : ℕ) → BidderBounds (getD bidders i noBidder)
 
--- every number of a sound book has a bidder within the bounds
+-- in a sound book the bidder with any number is within the bounds
 pub bidder-within : (b : Book) (i : ℕ) → soundBook b ≡ true → BidderBounds (bidderOf b i)
 bidder-within b i h = bidder-bounds (roundOf (b .stage)) (bidderOf b i) (bidder-sound b i h)
 

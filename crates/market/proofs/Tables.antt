@@ -12,7 +12,7 @@ use Rattle.market.specs.Answers.{Row, _gives_, firstOf, answerNumber, de
 use Rattle.market.specs.declared.answer.Outcome.{Outcome}
 use Rattle.market.specs.declared.book.Book.{Book}
 
--- no row of a table holds: its first row's test is false, and no row of the rest holds
+-- if no row of a table holds, its first row's test is false and no row of the rest holds
 pub none-holds : (test : Bool) (number : ℕ) (rows : List Row) → T (ltb 0 number) → firstOf ((test gives number) ∷ rows) ≡ 0 → (test ≡ false) × (firstOf rows ≡ 0)
 none-holds true number rows above h = absurd (clash (ltb→lt 0 number above))
   where
@@ -25,7 +25,7 @@ pub is-refused : (b : Book) (n : ℕ) (taken : Outcome) → (n ≡ 0 → ⊥) �
 is-refused b zero taken h = absurd (h refl)
 is-refused b (suc n) taken h = refl
 
--- where a call is answered its table gives none
+-- where a call is answered, its table gives no number
 pub none-refused : (b : Book) (n : ℕ) (taken : Outcome) → answerNumber (decided b n taken .answer) ≡ 0 → n ≡ 0
 none-refused b zero taken none = refl
 none-refused b (suc n) taken none = none
@@ -37,7 +37,7 @@ is-taken b (suc n) taken h = absurd (clash h)
     clash : suc n ≡ 0 → ⊥
     clash p = omega arith
 
--- the same of what is lent
+-- the same for a lent list
 pub list-kept : (before : List ℕ) (n : ℕ) (taken : List ℕ) → (n ≡ 0 → ⊥) → decidedList before n taken ≡ before
 list-kept before zero taken h = absurd (h refl)
 list-kept before (suc n) taken h = refl
@@ -49,7 +49,7 @@ list-taken before (suc n) taken h = absurd (clash h)
     clash : suc n ≡ 0 → ⊥
     clash p = omega arith
 
--- the same of a function that works out its table's number first
+-- the same for a function that first computes its table's number
 module _ (b : Book) (table : List Row) (taken : Outcome) (n : ℕ) (is : n ≡ firstOf table) where
   pub refuses : (n ≡ 0 → ⊥) → refused b n ≡ decided b (firstOf table) taken
   refuses h = rw (← is) (sym (is-refused b n taken h))
@@ -57,7 +57,7 @@ module _ (b : Book) (table : List Row) (taken : Outcome) (n : ℕ) (is : n ≡ f
   pub takes : n ≡ 0 → taken ≡ decided b (firstOf table) taken
   takes h = rw (← is) (sym (is-taken b n taken h))
 
--- a row that can hold gives a number above 0
+-- the row's number is above 0, so that it is not taken for no refusal
 abbrev pub numbered : Row → Bool
 numbered row = ltb 0 (row .1)
 
@@ -71,7 +71,7 @@ passes true k a b c above h same =
     absurd (omega arith)
 passes false k a b c above h same = same h
 
--- a table in two parts: a number of the first part stands, and where that has none the second part decides
+-- a table in two parts: a number of the first part is the whole table's; if there is none, the second part decides
 pub first-stands : (rows more : List Row) → (firstOf rows ≡ 0 → ⊥) → firstOf (rows ++ more) ≡ firstOf rows
 first-stands [] more h = absurd (h refl)
 first-stands (row ∷ rows) more h =
@@ -89,7 +89,7 @@ both true k a b c above h rest =
     absurd (omega arith)
 both false k a b c above h rest = rest h
 
--- where neither part has a number
+-- if the whole table gives no number, neither part does
 pub neither-holds : (rows more : List Row) → every numbered rows ≡ true → firstOf (rows ++ more) ≡ 0 → (firstOf rows ≡ 0) × (firstOf more ≡ 0)
 neither-holds [] more n h = (refl, h)
 neither-holds (row ∷ rows) more n h =

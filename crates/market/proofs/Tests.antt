@@ -25,12 +25,12 @@ pub neither-true : (s t : Bool) → (s || t) ≡ false → (s ≡ false) × (t �
 neither-true true t h = absurd (false≢true (sym h))
 neither-true false t h = (refl, h)
 
--- what a test lets through is no more than it was
+-- a number that a test keeps or replaces by 0 is at most what it was
 pub kept-at-most : (t : Bool) (n : ℕ) → cond t n 0 ≤ n
 kept-at-most true n = omega arith
 kept-at-most false n = omega arith
 
--- two orders that follow from one another test alike
+-- two comparisons that follow from each other have the same test
 pub leb-same : (a b c d : ℕ) → (a ≤ b → c ≤ d) → (c ≤ d → a ≤ b) → leb a b ≡ leb c d
 leb-same a b c d f g = go (leb a b) (leb c d) refl refl
   where
@@ -39,11 +39,11 @@ leb-same a b c d f g = go (leb a b) (leb c d) refl refl
     go false true p q = le-leb a b (g (leb-true c d q)) ∙ sym q
     go false false p q = p ∙ sym q
 
--- a sum within a limit, tested by what the limit leaves
+-- whether a sum is within a limit, tested by what the limit leaves
 pub leb-left : (a b limit : ℕ) → a ≤ limit → leb b (limit - a) ≡ leb (a + b) limit
 leb-left a b limit h = leb-same b (limit - a) (a + b) limit (λ p. omega arith) (λ p. omega arith)
 
--- a sum is 0 where both parts are
+-- a sum is 0 exactly where both parts are
 pub eqb-sum : (a b : ℕ) → (eqb a 0 && eqb b 0) ≡ eqb (a + b) 0
 eqb-sum a b = go (eqb a 0) (eqb b 0) refl refl
   where
@@ -72,7 +72,7 @@ module _ {A : Type 0} (test : A → Bool) (l : List A) (i : ℕ) (d : A) where
   pub passed : length l ≤ i → Passed test l i → every test l ≡ true
   passed h p = p ∙ ap (every test) (drop-of-length-le l h)
 
--- the same of the first elements of a list
+-- the same for the first `count` elements of a list
 module _ {A : Type 0} (test : A → Bool) (xs : List A) (count : ℕ) (within : count ≤ length xs) (i : ℕ) (d : A) where
   pub pass-first : i < count → Passed test (take count xs) i → test (getD xs i d) ≡ true → Passed test (take count xs) (i + 1)
   pass-first h p e =

@@ -29,7 +29,7 @@ answerNumber Done = 0
 answerNumber (Drawn draw) = 0
 answerNumber (Bids bids) = 0
 
--- the numbers that an answer carries besides: default's "carries the letter draw", a round's "carries the number of bids"
+-- the other numbers that an answer carries: default's "carries the letter draw", a round's "carries the number of bids"
 abbrev pub answerValues : Answer → List ℕ
 answerValues (Refused number) = []
 answerValues Done = []
@@ -57,7 +57,7 @@ abbrev pub decided : Book → ℕ → Outcome → Outcome
 decided book zero taken = taken
 decided book (suc n) taken = refused book (suc n)
 
--- the same of what is lent: as it was where the call is refused
+-- the same for a lent list: unchanged where the call is refused
 abbrev pub decidedList : List ℕ → ℕ → List ℕ → List ℕ
 decidedList before zero taken = taken
 decidedList before (suc n) taken = before

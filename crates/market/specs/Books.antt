@@ -44,11 +44,11 @@ balance z = record { 0 = z }
 abbrev pub pathsOf : Book → List Path
 pathsOf b = take (b .«path_count») (b .paths)
 
--- a path with nothing, as past the book's paths
+-- an empty path, which fills the slots past the book's paths
 abbrev pub noPath : Path
 noPath = record { direction = Export; zone = 0; offer = megawatts 0; sold = megawatts 0 }
 
--- a route to nowhere, as past the routes of a fresh book's paths
+-- an empty route, which is read past the end of a list of routes
 abbrev pub noRoute : Route
 noRoute = record { direction = Export; zone = 0 }
 
@@ -56,7 +56,7 @@ noRoute = record { direction = Export; zone = 0 }
 abbrev pub noBidder : Bidder
 noBidder = record { cash = cents 0; applied = cents 0; letter = cents 0; hold = cents 0; owed = cents 0; step = 0 }
 
--- "32 bidders, 0 to 31": the bidder of a number
+-- "32 bidders, 0 to 31": the bidder with a given number
 abbrev pub bidderOf : Book → ℕ → Bidder
 bidderOf b i = getD (b .bidders) i noBidder
 
@@ -68,15 +68,15 @@ valueOf x = x .applied .0 + x .owed .0
 abbrev pub noValue : Bidder → Bool
 noValue x = eqb (valueOf x) 0
 
--- "Cash held is all cash and applied": one bidder's
+-- "Cash held is all cash and applied": of one bidder
 abbrev pub heldOf : Bidder → ℕ
 heldOf x = x .cash .0 + x .applied .0
 
--- amounts by bidder, with more for one of them
+-- amounts by bidder, with `cents` more for one of them
 abbrev pub credit : List ℕ → ℕ → ℕ → List ℕ
 credit amounts bidder cents = set amounts bidder (getD amounts bidder 0 + cents)
 
--- a bidder with another cash, or another letter
+-- a bidder with its cash, or its letter, replaced
 abbrev pub withCash : Bidder → ℕ → Bidder
 withCash x n =
     record { cash = cents n; applied = x .applied; letter = x .letter; hold = x .hold; owed = x .owed; step = x .step }
@@ -85,7 +85,7 @@ abbrev pub withLetter : Bidder → ℕ → Bidder
 withLetter x n =
     record { cash = x .cash; applied = x .applied; letter = cents n; hold = x .hold; owed = x .owed; step = x .step }
 
--- a book with another bidder at a number, another count of entries, or another account
+-- a book with one bidder, the count of entries, or the account replaced
 abbrev pub withBidder : Book → ℕ → Bidder → Book
 withBidder b i x =
     record {
@@ -119,7 +119,7 @@ withAccount b z =
       stage = b .stage;
     }
 
--- a book with the auction's part changed: its paths, and the stage
+-- a book with the auction's part replaced: its paths and its stage
 abbrev pub withAuction : Book → List Path → Stage → Book
 withAuction b slots stage =
     record {

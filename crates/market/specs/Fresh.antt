@@ -29,11 +29,11 @@ freshRefusals routes n =
 abbrev pub freshPath : Route → Path
 freshPath r = record { direction = r .direction; zone = r .zone; offer = megawatts 0; sold = megawatts 0 }
 
--- the slots of the counted paths, and past them slots with nothing
+-- the slots of the counted paths, and empty slots after them
 abbrev pub freshPaths : List Route → ℕ → List Path
 freshPaths routes n = map freshPath (take n routes) ++ replicate (pathLimit - n) noPath
 
--- the paths, all else 0, idle
+-- a book with these paths, everything else 0 and the stage idle
 abbrev pub bookOf : List Path → ℕ → Book
 bookOf slots n =
     record {
@@ -48,7 +48,7 @@ bookOf slots n =
 unfoldable pub freshBook : List Route → ℕ → Book
 freshBook routes n = bookOf (freshPaths routes n) n
 
--- what stands for a book where none can be made: it has no path, so it is not sound and every call refuses it
+-- the book that is returned where none can be made: it has no path, so it is not sound and every call refuses it
 unfoldable pub noBook : Book
 noBook = bookOf (replicate pathLimit noPath) 0
 

@@ -1,4 +1,4 @@
--- The limits of document 01, each named here once. `Engine` has the same as associated constants.
+-- The limits of document 01, each named here once. `Engine` has the same limits as associated constants.
 use mathlib.Core.List.{List, [], _∷_}
 use Prim.Native.Nat.{ℕ, _+_, _*_, _^_}
 
@@ -98,7 +98,7 @@ pairWords = 2
 abbrev pub multipliers : List ℕ
 multipliers = 10 ∷ 8 ∷ 5 ∷ 1 ∷ []
 
--- so much a bidding limit is at most, from the greatest multiplier, cash and letter
+-- the most that a bidding limit can be, from the greatest multiplier, cash and letter
 abbrev pub biddingLimitTop : ℕ
 biddingLimitTop = 10 * (moneyLimit + moneyLimit)
 
@@ -113,7 +113,7 @@ over = 0
 abbrev pub bidListWords : ℕ
 bidListWords = 4096
 
--- so many bids such a list can have, since a bid has a header and a pair at least
+-- the most bids that such a list can have, since a bid has at least a header and a pair
 abbrev pub bidLimit : ℕ
 bidLimit = 682
 
@@ -144,7 +144,7 @@ zones = 16
 abbrev pub zonePriceLimit : ℕ
 zonePriceLimit = 10 ^ 6
 
--- "D outside 1 to 10^11": what is disbursed or recovered at once, and so a pool
+-- "D outside 1 to 10^11": the most that is disbursed or recovered at once, and so the largest pool
 abbrev pub poolLimit : ℕ
 poolLimit = 10 ^ 11
 

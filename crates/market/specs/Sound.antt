@@ -52,7 +52,7 @@ abbrev pub periodOf : Stage → Period
 periodOf Idle = record { first = dayNumber 0; last = dayNumber 0 }
 periodOf (Open kind round period) = period
 
--- a path, where the next round is the number given: "a zone 0 to 15", "with sold .. 0 at round 1", "sold at most offer at
+-- a path, where `round` is the next round: "a zone 0 to 15", "with sold .. 0 at round 1", "sold at most offer at
 -- most 9,999"
 abbrev pub soundPath : ℕ → Path → Bool
 soundPath round p =

@@ -10,11 +10,11 @@ pub struct Refusal {}
 impl Refusal {
     // No refusal: the call is taken.
     pub const NONE: u32 = 0;
-    // The calling program's.
+    // Caused by the calling program.
     pub const SHORT_BUFFER: u32 = 1;
 
     pub const UNSOUND: u32 = 2;
-    // A bidder's.
+    // Caused by a bidder.
     pub const BIDDER: u32 = 10;
 
     pub const AMOUNT: u32 = 11;
@@ -28,7 +28,7 @@ impl Refusal {
     pub const SECOND_BID: u32 = 15;
 
     pub const STAMP: u32 = 16;
-    // The auction desk's.
+    // Caused by the auction desk.
     pub const STAGE: u32 = 20;
 
     pub const DAYS: u32 = 21;
@@ -40,7 +40,7 @@ impl Refusal {
     pub const NOTHING_DUE: u32 = 24;
 
     pub const QUANTITY: u32 = 25;
-    // Settlement's.
+    // Caused by settlement.
     pub const ZONE_PRICE: u32 = 30;
 
     pub const ACCOUNT: u32 = 31;
@@ -48,7 +48,7 @@ impl Refusal {
     pub const TOTAL: u32 = 32;
 
     pub const COLUMNS: u32 = 33;
-    // Whoever wrote a sheet.
+    // Caused by whoever wrote a sheet.
     pub const FORM: u32 = 40;
 }
 
@@ -61,7 +61,7 @@ pub enum Answer {
 }
 
 impl Answer {
-    // The paper's number of a refusal, and 0 where the call is answered.
+    // The paper's number for a refusal; 0 where the call is answered.
     pub fn number(self) -> u32
         ensures { λ r. ⌜ r ≡ answerNumber self ⌝ }
     {

@@ -69,8 +69,8 @@ pub struct Book {
     pub stage: Stage,
 }
 
-// One entry of the register: a bidder's right on a path. `state` is Engine::PENDING or Engine::ISSUED; words that are
-// lent may hold any other number there, which makes the entry unsound.
+// One entry of the register: a bidder's right on a path. `state` is Engine::PENDING or Engine::ISSUED; lent words
+// may hold any other number there, which makes the entry unsound.
 pub struct Entry {
     pub bidder: u32,
     pub path: u32,

@@ -44,7 +44,7 @@ pub fn refusal(routes: [Route; Engine::PATHS], count: usize) -> u32
     Refusal::NONE
 }
 
-// A path with nothing, as past the book's paths.
+// An empty path, which fills the slots past the book's paths.
 pub fn no_path() -> Path
     ensures { λ r. ⌜ r ≡ noPath ⌝ }
 {
@@ -94,7 +94,7 @@ fn no_bidder() -> Bidder
     }
 }
 
-// A book with these paths, all else 0, idle.
+// A book with these paths, everything else 0 and the stage idle.
 pub fn book_of(paths: [Path; Engine::PATHS], count: usize) -> Book
     ensures { λ r. ⌜ r ≡ bookOf paths count ⌝ }
 {

@@ -38,6 +38,6 @@ offered-within Long round p = go (eqb round 1)
     go true = omega arith
     go false = omega arith
 
--- the last round of L offers at least three times what the first offered, where no more than that was sold in the first
+-- if the first round of L sold no more than it offered, the last round offers at least three times what the first did
 pub last-round : (p : Path) → p .sold .0 ≤ offeredIn Long 1 p → 3 * offeredIn Long 1 p ≤ offeredIn Long 2 p
 last-round p h = omega arith

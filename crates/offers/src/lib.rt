@@ -1,4 +1,4 @@
-// What an auction offers of a path, and what each of its rounds offers of that.
+// How many MW of a path an auction offers, and how many of them each of its rounds offers.
 use market::book::Kind;
 use market::book::Path;
 use market::engine::Engine;
@@ -8,7 +8,7 @@ ghost use Prim.Native.Nat.{_-_, min};
 ghost use Rattle.market.specs.Books.{megawatts};
 ghost use Rattle.offers.specs.Offers.{capability, longOffer, shortOffer, offerOf, longOffered, offeredIn};
 
-// What open takes of a path: the base quantity, the financial upper limit, and the expected capabilities A and B.
+// What open takes for each path: the base quantity, the financial upper limit, and the expected capabilities A and B.
 pub struct Quantities {
     pub base: Megawatts,
     pub upper: Megawatts,
@@ -25,7 +25,7 @@ fn least(a: u32, b: u32) -> u32
     b
 }
 
-// What is left of a quantity, 0 where more is taken.
+// What is left of a quantity when `taken` is taken from it; 0 where that is more than there is.
 fn left(whole: u32, taken: u32) -> u32
     ensures { λ r. ⌜ r ≡ whole - taken ⌝ }
 {
@@ -66,7 +66,7 @@ fn long_offer(of: Quantities, out: Megawatts) -> u32
     )
 }
 
-// The offer of a path, of which so much is out.
+// The offer of a path on which `out` is outstanding.
 pub fn offer(kind: Kind, of: Quantities, out: Megawatts) -> Megawatts
     ensures { λ r. ⌜ r ≡ megawatts (offerOf kind of (out .0)) ⌝ }
 {

@@ -15,10 +15,10 @@ use Rattle.market.specs.declared.book.Period.{Period}
 use Rattle.register.proofs.Cleared.{Lent}
 use Rattle.opened_paths.specs.OpenedPaths.{openedPath, openedPaths}
 
--- a book that is lent its register sound has no more paths than slots
+-- where the book and its lent register are sound, the book has no more paths than slots
 pub paths-within : (b : Book) (words : List ℕ) → Lent b words → b .«path_count» ≤ pathLimit
 paths-within b words lent = count-within (b .«path_count») (sound-parts b (lent .sound) .path-count)
 
--- one path more is opened
+-- opening one more path
 pub opened-more : (kind : Kind) (period : Period) (es : List Entry) (quantities : List ℕ) (slots : List Path) (i : ℕ) → openedPaths kind period es quantities slots (i + 1) ≡ set (openedPaths kind period es quantities slots i) i (openedPath kind period es quantities i (getD slots i noPath))
 opened-more kind period es quantities slots i = ap (openedPaths kind period es quantities slots) (add-one i)

@@ -14,8 +14,8 @@ use Rattle.offers.specs.Offers.{offerOf}
 use Rattle.offers.specs.declared.Quantities.{Quantities}
 use Rattle.register.specs.Entries.{outstanding}
 
--- "per path a base quantity, a financial upper limit (FUL) and two expected capabilities A and B": the four of a path, in that
--- order, path after path
+-- "per path a base quantity, a financial upper limit (FUL) and two expected capabilities A and B": the four quantities
+-- of path `i`; the list has them in that order, path after path
 abbrev pub quantitiesAt : List ℕ → ℕ → Quantities
 quantitiesAt quantities i =
     record {
@@ -29,7 +29,7 @@ quantitiesAt quantities i =
 abbrev pub wordsNeeded : Book → ℕ
 wordsNeeded b = b .«path_count» * quantityWords
 
--- "Open stores the offer and sets sold to 0": the path of a number, the entries being the register's
+-- "Open stores the offer and sets sold to 0": path `i`, where `es` are the register's entries
 abbrev pub openedPath : Kind → Period → List Entry → List ℕ → ℕ → Path → Path
 openedPath kind period es quantities i p =
     record {
@@ -39,7 +39,7 @@ openedPath kind period es quantities i p =
       sold = megawatts 0;
     }
 
--- the slots with the first paths opened, and those past them as they were
+-- the slots with the first `n` paths opened, and the others as they were
 abbrev pub openedPaths : Kind → Period → List Entry → List ℕ → List Path → ℕ → List Path
 openedPaths kind period es quantities slots zero = slots
 openedPaths kind period es quantities slots (suc n) =

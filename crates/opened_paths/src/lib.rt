@@ -57,7 +57,7 @@ fn opened_path(
     }
 }
 
-// The slots of the book, its paths opened.
+// The slots of the book with its paths opened.
 pub fn opened_paths(
     book: Book,
     words: &[u32],

@@ -15,7 +15,7 @@ use Rattle.register.specs.Refusals.{registerRefusals}
 use Rattle.opened_paths.specs.OpenedPaths.{wordsNeeded}
 use Rattle.opening.specs.Open.{lentRefusals, openRefusals, openTable}
 
--- the quantities are lent for each path, and the register is lent whole and sound
+-- there are quantities for each path, and the lent register is long enough and sound
 pub record AllLent (b : Book) (words quantities : List ℕ) : Type 0 where
   pub long : wordsNeeded b ≤ length quantities
   pub register : Lent b words

@@ -29,12 +29,12 @@ openRefusals b period quantities =
     ∷ (not (every soundQuantity (take (wordsNeeded b) quantities)) gives 25)
     ∷ []
 
--- the whole, in the paper's order: 1, 2, 20, 21, 25
+-- the whole table, in the paper's order: 1, 2, 20, 21, 25
 abbrev pub openTable : Book → List ℕ → Period → List ℕ → List Row
 openTable b words period quantities =
     (lentRefusals b quantities ++ registerRefusals b words) ++ openRefusals b period quantities
 
--- "open with the next round and the period": all else stays
+-- "open with the next round and the period": everything else stays
 abbrev pub opened : Book → List ℕ → Kind → Period → List ℕ → Book
 opened b words kind period quantities =
     withAuction b

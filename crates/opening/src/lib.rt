@@ -1,4 +1,4 @@
-// Open: an auction is opened, with what it offers of each path.
+// Open: opens an auction and stores what it offers of each path.
 mod parts;
 
 use market::answer::Answer;
@@ -18,7 +18,7 @@ ghost use Rattle.register.specs.Refusals.{registerRefusals};
 ghost use Rattle.opened_paths.specs.OpenedPaths.{wordsNeeded};
 ghost use Rattle.opening.specs.Open as rules;
 
-// The refusal of the lent quantities, and 1 and 2 of the register; 0 where there is none.
+// The refusal of what is lent: 1 for too few quantities, 1 or 2 for the register; 0 where there is none.
 fn lent_refusal(book: Book, words: &[u32], quantities: &[u32]) -> u32
     ensures { λ r. ⌜ r ≡ firstOf (rules.lentRefusals book (now (quantities .entry)) ++ registerRefusals book (now (words .entry))) ⌝ }
 {
@@ -29,7 +29,7 @@ fn lent_refusal(book: Book, words: &[u32], quantities: &[u32]) -> u32
     register_soundness::refusal(book, words)
 }
 
-// The refusals of open itself, 20, 21 and 25; 0 where there is none.
+// The first of open's own refusals, 20, 21 and 25; 0 where there is none.
 fn own_refusal(book: Book, period: Period, quantities: &[u32]) -> u32
     requires { ⌜ wordsNeeded book ≤ length (now quantities) ⌝ }
     ensures { λ r. ⌜ r ≡ firstOf (rules.openRefusals book period (now (quantities .entry))) ⌝ }
@@ -63,7 +63,7 @@ fn refusal(book: Book, words: &[u32], period: Period, quantities: &[u32]) -> u32
     own_refusal(book, period, quantities)
 }
 
-// An auction is opened for a period, with four quantities for each path: base, upper limit, and the expected capabilities A and B.
+// Opens an auction for a period, with four quantities for each path: base, upper limit, and the expected capabilities A and B.
 pub fn open(book: Book, words: &[u32], kind: Kind, period: Period, quantities: &[u32]) -> Outcome
     ensures { λ r. ⌜ r ≡ rules.«open» book (now (words .entry)) kind period (now (quantities .entry)) ⌝ }
 {

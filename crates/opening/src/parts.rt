@@ -1,4 +1,4 @@
-// The tests of open over a list.
+// The tests of open that go over a list.
 use market::book::Bidder;
 use market::engine::Engine;
 ghost use mathlib.Core.Path.{_≡_};
@@ -19,7 +19,7 @@ pub fn no_values(bidders: [Bidder; Engine::BIDDERS]) -> bool
     true
 }
 
-// Whether each of the first quantities is within the limit.
+// Whether each of the first `count` quantities is within the limit.
 pub fn all_sound(quantities: &[u32], count: usize) -> bool
     requires { ⌜ count ≤ length (now quantities) ⌝ }
     ensures { λ r. ⌜ r ≡ every soundQuantity (take count (now (quantities .entry))) ⌝ }

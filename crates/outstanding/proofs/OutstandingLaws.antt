@@ -28,7 +28,7 @@ counted-within path period e = go (eqb (e .path) path && sharesDay (e .period) p
     go true = omega arith
     go false = omega arith
 
--- what a counted entry of a sound register counts for is within the limit of a quantity
+-- what a counted entry of a sound register adds to the sum is within the limit of a quantity
 pub counted-bound : (paths : ℕ) (words : List ℕ) (n i path : ℕ) (period : Period) → every (soundEntry paths) (entriesOf words n) ≡ true → i < n → countedOf path period (entryAt words i) ≤ quantityLimit
 counted-bound paths words n i path period h below =
     omega (arith, counted-within path period (entryAt words i), each-bounds paths words n i h below .quantity)

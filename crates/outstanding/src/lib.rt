@@ -1,4 +1,4 @@
-// What is outstanding of a path: the megawatts of its counted entries whose period shares a day with another.
+// What is outstanding on a path: the megawatts of its counted entries whose period shares a day with a given one.
 use market::book::Entry;
 use market::book::Period;
 use market::units::Megawatts;
@@ -26,7 +26,7 @@ fn counted(path: u32, period: Period, entry: Entry) -> u32
     0
 }
 
-// The megawatts of a path whose period shares a day with another.
+// The megawatts of a path's counted entries whose period shares a day with `period`.
 pub fn outstanding_on(
     words: &[u32],
     count: usize,

@@ -16,7 +16,7 @@ use Rattle.register.proofs.Cleared.{Lent, register-cleared}
 use Rattle.register.specs.Refusals.{registerRefusals, countedEntries}
 use Rattle.payout.specs.Payout.{soundPrices, lentRefusals, hourRefusals, accountRefusals, payoutTable}
 
--- what is lent is long enough, and the register is lent whole and sound
+-- the lent lists are long enough, and the lent register is long enough and sound
 pub record AllLent (b : Book) (words : List ℕ) (prices : List ℤ) (amounts : List ℕ) : Type 0 where
   pub prices-long : zones ≤ length prices
   pub amounts-long : bidderLimit ≤ length amounts

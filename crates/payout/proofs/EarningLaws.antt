@@ -47,13 +47,13 @@ hour-sound false prices path h below =
     in
     rw is at (every-at-any soundPrice (take zones prices) (path .zone) (pos 0) h refl)
 
--- no MW earns more than a sound price may be
+-- one MW earns at most the limit of a price
 rate-within : (hour : Hour) (way : Direction) → soundHour hour ≡ true → rate hour way ≤ zonePriceLimit
 rate-within Failed way h = zero-le
 rate-within (Priced p) Export h = above-within (p .0) h
 rate-within (Priced p) Import h = below-within (p .0) h
 
--- the image of an element, at its place among the images
+-- the image of an element is at the element's place among the images
 image-at : {A : Type 0} (f : A → ℕ) (l : List A) (rest : List ℕ) (i : ℕ) (d : A) → i < length l → getD (map f l ++ rest) i 0 ≡ f (getD l i d)
 image-at f [] rest i d h = absurd (omega arith)
 image-at f (x ∷ l) rest zero d h = refl
@@ -63,13 +63,13 @@ pub filled-at : {A : Type 0} (f : A → ℕ) (xs : List A) (n blank i k : ℕ) (
 filled-at f xs n blank i k d below within =
     image-at f (take i xs) (replicate (n - i) blank) k d (simp length-take (omega arith)) ∙ ap f (getD-take i xs k d below)
 
--- what one MW earns on a path of a sound book is within that too
+-- so what one MW earns on a path of a sound book is within that limit
 pub rate-sound : (b : Book) (failed : Bool) (prices : List ℤ) (i : ℕ) → i < b .«path_count» → soundBook b ≡ true → soundPrices failed prices ≡ true → rateOn failed prices (pathOf b i) ≤ zonePriceLimit
 rate-sound b failed prices i below sound priced =
     rate-within (hourAt failed prices (pathOf b i)) (pathOf b i .direction)
     (hour-sound failed prices (pathOf b i) priced (zone-within b i sound below))
 
--- one entry more is credited
+-- crediting one more entry
 credited-snoc : (earns : Entry → ℕ) (amounts : List ℕ) (es : List Entry) (e : Entry) → credited earns amounts (es ++ (e ∷ [])) ≡ credit (credited earns amounts es) (e .bidder) (earns e)
 credited-snoc earns amounts [] e = refl
 credited-snoc earns amounts (x ∷ es) e = credited-snoc earns (credit amounts (x .bidder) (earns x)) es e
@@ -97,6 +97,6 @@ credit-total amounts bidder cents h =
 pub credit-length : (amounts : List ℕ) (bidder cents : ℕ) → length (credit amounts bidder cents) ≡ length amounts
 credit-length amounts bidder cents = length-set amounts bidder (getD amounts bidder 0 + cents)
 
--- what an entry earns is within the limits of a quantity and of a price
+-- what an entry earns is at most the limit of a quantity times the limit of a price
 pub product-within : {q r : ℕ} → q ≤ quantityLimit → r ≤ zonePriceLimit → q * r ≤ quantityLimit * zonePriceLimit
 product-within p h = mul-le-mul p h

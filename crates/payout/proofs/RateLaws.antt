@@ -1,4 +1,4 @@
--- Laws about what entries earn by the rates of a book's paths, worked out once for an hour.
+-- Laws about what entries earn by the rates of a book's paths, which are computed once for an hour.
 use mathlib.Core.Path.{_≡_, ap}
 use mathlib.Core.Bool.{Bool, true, cond}
 use mathlib.Core.List.{List}
@@ -47,7 +47,7 @@ credits-same b words lent failed prices rates made day amounts =
     credited-same (earnedBy day rates) (earned b day failed prices) amounts words (b .entries)
     (λ i inside. earns-same b words lent i inside failed prices rates made day)
 
--- the sum so far is far from the account's limit
+-- the sum so far, with one more entry, is within the account's limit
 pub sum-fits : (i n sum cents : ℕ) → i < n → n ≤ entryLimit → sum ≤ i * (quantityLimit * zonePriceLimit) → cents ≤ quantityLimit * zonePriceLimit → sum + cents ≤ accountLimit
 sum-fits i n sum cents inside few within more = omega arith
 

@@ -22,7 +22,7 @@ use Rattle.sharing.specs.Sharing.{total}
 abbrev pub rateOn : Bool → List ℤ → Path → ℕ
 rateOn failed prices path = rate (hourAt failed prices path) (path .direction)
 
--- the path of a number
+-- the path with a given number
 abbrev pub pathOf : Book → ℕ → Path
 pathOf b i = getD (b .paths) i noPath
 
@@ -68,7 +68,7 @@ abbrev pub accountRefusals : Book → List Entry → Day → Bool → List ℤ �
 accountRefusals b es day failed prices =
     (not (soundAccount (accountPaying b day failed prices es)) gives 31) ∷ []
 
--- the whole, in the paper's order: 1, 2, 21, 30, 31
+-- the whole table, in the paper's order: 1, 2, 21, 30, 31
 abbrev pub payoutTable : Book → List ℕ → Day → Bool → List ℤ → List ℕ → List Row
 payoutTable b words day failed prices amounts =
     (lentRefusals prices amounts ++ registerRefusals b words)
@@ -79,7 +79,7 @@ payout b words day failed prices amounts =
     decided b (firstOf (payoutTable b words day failed prices amounts))
     (answered (withAccount b (accountPaying b day failed prices (countedEntries b words))))
 
--- the lent amounts after it: all 32 are written, and words past them stay
+-- the lent amounts after the call: all 32 are written, and the words after them stay
 unfoldable pub payoutAmounts : Book → List ℕ → Day → Bool → List ℤ → List ℕ → List ℕ
 payoutAmounts b words day failed prices amounts =
     decidedList amounts (firstOf (payoutTable b words day failed prices amounts))

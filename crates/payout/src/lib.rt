@@ -17,7 +17,7 @@ ghost use Rattle.market.specs.Limits.{zones};
 ghost use Rattle.register.specs.Refusals.{registerRefusals};
 ghost use Rattle.payout.specs.Payout as rules;
 
-// The refusals of what is lent, and 1 and 2 of the register; 0 where there is none.
+// The refusal of what is lent: 1 for a list that is too short, 1 or 2 for the register; 0 where there is none.
 fn lent_refusal(book: Book, words: &[u32], prices: &[i64], amounts: &[u64]) -> u32
     ensures { λ r. ⌜ r ≡ firstOf (rules.lentRefusals (now (prices .entry)) (now (amounts .entry)) ++ registerRefusals book (now (words .entry))) ⌝ }
 {
@@ -30,7 +30,7 @@ fn lent_refusal(book: Book, words: &[u32], prices: &[i64], amounts: &[u64]) -> u
     register_soundness::refusal(book, words)
 }
 
-// The refusals of the day and the prices, 21 and 30; 0 where there is none.
+// The refusal of the day, 21, or of the prices, 30; 0 where there is none.
 fn hour_refusal(day: Day, failed: bool, prices: &[i64]) -> u32
     requires { ⌜ zones ≤ length (now prices) ⌝ }
     ensures { λ r. ⌜ r ≡ firstOf (rules.hourRefusals day failed (now (prices .entry))) ⌝ }
@@ -47,8 +47,8 @@ fn hour_refusal(day: Day, failed: bool, prices: &[i64]) -> u32
     Refusal::NONE
 }
 
-// What each bidder's issued rights earn in an hour on a day, failed or priced, to the front of the list that is lent for the
-// amounts; the account pays. Nothing is written before it is known that nothing is refused.
+// Writes what each bidder's issued rights earn in an hour of a day, failed or priced, to the front of the list that is lent for
+// the amounts; the account pays. Nothing is written before it is known that nothing is refused.
 pub fn payout(
     book: Book,
     words: &[u32],

@@ -21,7 +21,7 @@ pub struct Sums {
     pub total: u64,
 }
 
-// What one MW earns in the hour on each of the first so many paths.
+// What one MW earns in the hour on each of the first `count` paths.
 fn rates_of(
     paths: [Path; Engine::PATHS],
     count: usize,
@@ -69,7 +69,7 @@ fn earned_by(day: Day, rates: &[u64], entry: Entry) -> u64
     (quantity.0 as u64) * rates[path]
 }
 
-// The amount of each bidder for the hour, with what one MW earns on each path worked out once.
+// The amount of each bidder for the hour. What one MW earns on each path is computed once.
 pub fn amounts_of(book: Book, words: &[u32], day: Day, failed: bool, prices: &[i64]) -> Sums
     requires { ⌜ Lent book (now words) ⌝ }
     requires { ⌜ soundPrices failed (now prices) ≡ true ⌝ }

@@ -1,4 +1,4 @@
-// How a pool is shared by a column of weights: whole cents dropped down, then one cent each by largest remainder.
+// How a pool is shared by a column of weights: rounded down to whole cents, then one cent each by largest remainder.
 use market::engine::Engine;
 ghost use mathlib.Core.Path.{_≡_};
 ghost use mathlib.Core.List.{map};
@@ -24,7 +24,7 @@ fn remainder_of(pool: u64, whole: u64, weight: u32) -> u64
     pool * (weight as u64) % whole
 }
 
-// The whole cents of each weight.
+// The share of each weight, rounded down to whole cents.
 fn floors_of(pool: u64, whole: u64, weights: [u32; Engine::BIDDERS]) -> [u64; Engine::BIDDERS]
     requires { ⌜ pool ≤ poolLimit ⌝ }
     requires { ⌜ total weights ≤ columnLimit ⌝ }
@@ -39,7 +39,7 @@ fn floors_of(pool: u64, whole: u64, weights: [u32; Engine::BIDDERS]) -> [u64; En
     floors
 }
 
-// What is dropped of each weight's share.
+// What the rounding drops of each weight's share.
 fn remainders_of(pool: u64, whole: u64, weights: [u32; Engine::BIDDERS]) -> [u64; Engine::BIDDERS]
     requires { ⌜ pool ≤ poolLimit ⌝ }
     requires { ⌜ total weights ≤ columnLimit ⌝ }
@@ -54,7 +54,7 @@ fn remainders_of(pool: u64, whole: u64, weights: [u32; Engine::BIDDERS]) -> [u64
     rems
 }
 
-// The sum of shares that a pool holds.
+// The sum of shares, which is within the limit of a pool.
 fn shares_total(shares: [u64; Engine::BIDDERS]) -> u64
     requires { ⌜ total shares ≤ poolLimit ⌝ }
     ensures { λ r. ⌜ r ≡ total shares ⌝ }
@@ -80,7 +80,7 @@ fn largest_of(rems: [u64; Engine::BIDDERS]) -> usize
     best
 }
 
-// The shares with the cents left, one each by largest remainder.
+// The shares after the cents left are handed out, one each by largest remainder.
 fn hand_out(
     cents: u64,
     remainders: [u64; Engine::BIDDERS],
@@ -99,7 +99,7 @@ fn hand_out(
     shares
 }
 
-// The share of each participant in a pool; a pool with no weight is empty.
+// The share of each participant in a pool. A pool with no weight must be empty.
 pub fn share_pool(pool: u64, weights: [u32; Engine::BIDDERS]) -> [u64; Engine::BIDDERS]
     requires { ⌜ pool ≤ poolLimit ⌝ }
     requires { ⌜ total weights ≤ columnLimit ⌝ }

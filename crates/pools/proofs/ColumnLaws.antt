@@ -15,7 +15,7 @@ use Rattle.sharing.specs.Sharing.{total}
 use Rattle.pools.specs.Pools.{allCharges, provincialPool, exportPool, provincialWeights, exportWeights, columnsWithin, unshared, columnRefusals}
 use Rattle.pools.specs.declared.Columns.{Columns}
 
--- the totals of columns within the limit
+-- each column's total is within the limit
 pub record Totals (cols : Columns) : Type 0 where
   pub provincial : total (cols .provincial) ≤ columnLimit
   pub export : total (cols .export) ≤ columnLimit
@@ -56,7 +56,7 @@ shared-out pool weights h some =
     above : (n : ℕ) → (n ≡ 0 → ⊥) → 0 < n
     above n p = omega arith
 
--- a pool, tested by equal numbers
+-- the test of a pool, from a result computed with numbers that are equal to its own
 pub unshared-is : (pool p : ℕ) (weights w : List ℕ) (r t : Bool) → r ≡ unshared p w → p ≡ pool → w ≡ weights → r ≡ t → unshared pool weights ≡ t
 unshared-is pool p weights w r t is ps ws rt = rw (← ps, ← ws) (sym is ∙ rt)
 

@@ -30,7 +30,7 @@ Ready pool weights = (pool ≤ poolLimit) × ((total weights ≤ columnLimit) ×
 pub ready-total : (pool : ℕ) (weights shares : List ℕ) → Ready pool weights → shares ≡ poolShares pool weights → total shares ≤ poolLimit
 ready-total pool weights shares ready is = omega (arith, ap total is ∙ pool-total pool weights (ready .1 .1), ready .0)
 
--- where the columns are not refused both pools can
+-- where the columns are not refused, both pools can be shared
 module _ (d : ℕ) (cols : Columns) (most : d ≤ poolLimit) (none : firstOf (columnRefusals d cols) ≡ 0) where
   pub provincial-ready : Ready (provincialPool d cols) (provincialWeights cols)
   provincial-ready =
@@ -48,12 +48,12 @@ module _ (d : ℕ) (cols : Columns) (most : d ≤ poolLimit) (none : firstOf (co
         (omega (arith, eligible-total (cols .export) (cols .interties), totals .interties), clear .export),
       )
 
--- shares that are made step by step are made by the rule
+-- shares that are computed step by step, as the code does, are the rule's
 pub shared : (d : ℕ) (cols : Columns) (pool : ℕ) (v w x y r : List ℕ) → pool ≡ provincialPool d cols → v ≡ provincialWeights cols → w ≡ exportWeights cols → x ≡ poolShares pool v → y ≡ poolShares (d - pool) w → r ≡ together x y → r ≡ sharesOf d cols
 unfolding sharesOf
 shared d cols pool v w x y r pool-is v-is w-is x-is y-is r-is = rw (r-is, x-is, y-is, v-is, w-is, pool-is)
 
--- columns with a word for each participant
+-- each column has one word for each participant
 pub record Alike (cols : Columns) (n : ℕ) : Type 0 where
   pub provincial : length (cols .provincial) ≡ n
   pub export : length (cols .export) ≡ n

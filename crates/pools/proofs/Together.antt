@@ -8,7 +8,7 @@ use lib.Seq.{ext-getD}
 use Rattle.sharing.specs.Sharing.{total}
 use Rattle.pools.specs.Pools.{together}
 
--- two lists of cents together, for lists of one length
+-- two lists of the same length, added: the length and each element
 no-shorter : (n : ℕ) → suc n ≡ 0 → ⊥
 no-shorter n p = omega arith
 
@@ -24,13 +24,13 @@ together-at (x ∷ xs) [] j h = absurd (no-shorter (length xs) h)
 together-at (x ∷ xs) (y ∷ ys) zero h = refl
 together-at (x ∷ xs) (y ∷ ys) (suc j) h = together-at xs ys j (omega arith)
 
--- a list that has the sum at each place is the two together
+-- a list that has the sum at each place is the two lists added
 pub all-together : (xs ys zs : List ℕ) → length xs ≡ length ys → length zs ≡ length xs → ((j : ℕ) → j < length zs → getD zs j 0 ≡ getD xs j 0 + getD ys j 0) → zs ≡ together xs ys
 all-together xs ys zs p q h =
     ext-getD 0 zs (together xs ys) (q ∙ sym (together-length xs ys p))
     (λ (j : ℕ) (b : j < length zs). h j b ∙ sym (together-at xs ys j p))
 
--- and they add up to what the two add up to
+-- and its total is the sum of the two totals
 pub together-total : (xs ys : List ℕ) → length xs ≡ length ys → total (together xs ys) ≡ total xs + total ys
 together-total [] [] h = omega arith
 together-total [] (y ∷ ys) h = absurd (no-shorter (length ys) (sym h))

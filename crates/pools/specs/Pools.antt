@@ -1,4 +1,4 @@
--- Document 01, "Disburse, recover": the two pools of a total, each participant's share in them, and what is refused of the columns.
+-- Document 01, "Disburse, recover": the two pools of a total, each participant's share in them, and which columns are refused.
 use mathlib.Core.Bool.{Bool, not, _&&_}
 use mathlib.Core.List.{List, [], _∷_}
 use Prim.Native.Nat.{ℕ, _+_, _-_, _*_, _/_}
@@ -28,7 +28,7 @@ provincialWeights cols = eligible (cols .provincial) (cols .meters)
 abbrev pub exportWeights : Columns → List ℕ
 exportWeights cols = eligible (cols .export) (cols .interties)
 
--- each participant's cents of two lists together
+-- the sum of each participant's cents in two lists
 abbrev pub together : List ℕ → List ℕ → List ℕ
 together (x ∷ xs) (y ∷ ys) = (x + y) ∷ together xs ys
 together [] ys = []

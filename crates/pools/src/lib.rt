@@ -9,7 +9,7 @@ ghost use Rattle.market.specs.Limits.{poolLimit};
 ghost use Rattle.sharing.specs.Sharing.{total};
 ghost use Rattle.pools.specs.Pools.{allCharges, provincialPool, provincialWeights, exportWeights, together, sharesOf, columnsWithin, unshared, columnRefusals};
 
-// For each participant its charges, in whole dollars, and its energy, in whole MWh.
+// Each participant's charges, in whole dollars, and energy, in whole MWh.
 pub struct Columns {
     pub provincial: [u32; Engine::BIDDERS],
     pub export: [u32; Engine::BIDDERS],
@@ -52,7 +52,7 @@ fn provincial_pool(total: u64, columns: Columns) -> u64
     total * pool_weights::column_total(provincial) / all_charges(columns)
 }
 
-// Energy at meters, of those with a provincial charge.
+// The energy at meters of those with a provincial charge.
 fn provincial_weights(columns: Columns) -> [u32; Engine::BIDDERS]
     ensures { λ r. ⌜ r ≡ provincialWeights columns ⌝ }
 {
@@ -61,7 +61,7 @@ fn provincial_weights(columns: Columns) -> [u32; Engine::BIDDERS]
     pool_weights::eligible_energy(charges, energy)
 }
 
-// Energy at interties, of those with an export charge.
+// The energy at interties of those with an export charge.
 fn export_weights(columns: Columns) -> [u32; Engine::BIDDERS]
     ensures { λ r. ⌜ r ≡ exportWeights columns ⌝ }
 {
@@ -70,7 +70,7 @@ fn export_weights(columns: Columns) -> [u32; Engine::BIDDERS]
     pool_weights::eligible_energy(charges, energy)
 }
 
-// Whether a pool has cents and nobody to have them.
+// Whether a pool has cents and nobody to get them.
 fn is_unshared(pool: u64, weights: [u32; Engine::BIDDERS]) -> bool
     ensures { λ r. ⌜ r ≡ unshared pool weights ⌝ }
 {
@@ -98,7 +98,7 @@ pub fn refusal(total: u64, columns: Columns) -> u32
     Refusal::NONE
 }
 
-// Each participant's cents of two lists together.
+// The sum of each participant's cents in two lists.
 fn add_shares(
     first: [u64; Engine::BIDDERS],
     second: [u64; Engine::BIDDERS],

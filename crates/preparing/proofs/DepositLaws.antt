@@ -41,7 +41,7 @@ module _ (done first : Outcome) (made : done ≡ first) (next : Book → Outcome
   pub then-refused : (n ≡ 0 → ⊥) → done ≡ andThen first next
   then-refused some = unless-refused n done (next (done .book)) some ∙ made-then
 
-  -- one that is answered is followed by the next
+  -- after one that is answered the next is made
   pub then-next : n ≡ 0 → next (done .book) ≡ andThen first next
   then-next none = unless-answered n done (next (done .book)) none ∙ made-then
 
@@ -69,7 +69,7 @@ module _ (b : Book) (x : BidderLine) (o : Outcome) (made : o ≡ depositIf (x .c
 
 -- ---- Line by line
 
--- the deposits of the lines passed, and the rest
+-- the deposits of the lines passed are made, and those of the other lines are still to come
 pub record DepositsTo (b : Book) (lines : List BidderLine) (count : ℕ) (now : Book) (i : ℕ) : Type 0 where
   pub within : i ≤ count
   pub room : count ≤ length lines
@@ -78,7 +78,7 @@ pub record DepositsTo (b : Book) (lines : List BidderLine) (count : ℕ) (now : 
 pub none-made : (b : Book) (lines : List BidderLine) (count : ℕ) → count ≤ length lines → DepositsTo b lines count b 0
 none-made b lines count room = record { within = omega arith; room = room; rest = refl }
 
--- a line of a bidder listed
+-- each line is that of a bidder that a book has
 pub line-listed : (lines : List BidderLine) (i : ℕ) (d : BidderLine) → i < length lines → every isListed lines ≡ true → getD lines i d .bidder < bidderLimit
 line-listed lines i d inside listed = ltb-true (getD lines i d .bidder) bidderLimit (every-within isListed lines i d inside listed)
 

@@ -1,4 +1,4 @@
--- The book stays sound from a fresh one through the deposits, whether or not each is answered.
+-- The book is sound when it is fresh and stays so through the deposits, whether they are answered or refused.
 use mathlib.Core.Path.{_≡_, sym, ap, subst}
 use mathlib.Core.List.{List, [], _∷_}
 use Prim.Native.Nat.{ℕ, zero, suc}
@@ -42,7 +42,7 @@ deposits-keep b words (x ∷ xs) state =
     next-keeps (answerNumber (lineDeposits b x .answer)) (lineDeposits b x) (deposits (lineDeposits b x .book) xs) words line
     (deposits-keep (lineDeposits b x .book) words xs line)
 
--- a fresh book that is answered
+-- a fresh book, if the call is answered
 pub fresh-keeps : (routes : List Route) (n : ℕ) → answerNumber (fresh routes n .answer) ≡ 0 → State (fresh routes n .book) emptyRegister
 unfolding fresh
 fresh-keeps routes n taken =

@@ -1,4 +1,4 @@
--- The calls with the lines in slots are those with the lines that a sheet has.
+-- The calls made with the lines in slots are the calls made with the lines of the sheet.
 use mathlib.Core.Path.{_≡_, refl, sym, _∙_, ap, ap₂}
 use mathlib.Core.Bool.{true, not}
 use mathlib.Core.List.{List, [], _∷_, _++_, map, map-append}
@@ -27,7 +27,7 @@ use Rattle.preparing.specs.Preparing.{unlessRefused, andThen, deposits, 
 use Rattle.preparing.specs.PreparedSlots.{isListed, quantitiesIn, openedSlots}
 use Rattle.preparing.proofs.SlotLaws.{quantities-length, quantities-append}
 
--- ---- A fresh book that is answered has 16 paths at most
+-- ---- A fresh book has at most 16 paths, if the call is answered
 
 pub fresh-few : (routes : List Route) (n : ℕ) → answerNumber (fresh routes n .answer) ≡ 0 → n ≤ pathLimit
 unfolding fresh
@@ -54,7 +54,7 @@ module _ {A B : Type 0} (f : A → B) where
       ∙ ap₂ _++_ (map-take slots l)
       (map-replicate (slots - length l) none ∙ ap (λ (n : ℕ). replicate (slots - n) (f none)) (sym (length-map l f)))
 
--- ---- Slots that are enough
+-- ---- As many slots as lines, or more
 
 module _ {A : Type 0} (slots : ℕ) (none : A) (l : List A) (few : length l ≤ slots) where
   filled-few : filled slots none l ≡ l ++ replicate (slots - length l) none

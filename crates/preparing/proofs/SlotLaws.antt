@@ -11,11 +11,11 @@ use Rattle.preparing.specs.Preparing.{quantitiesOf}
 
 -- ---- One image in each slot
 
--- a list is as long as one that has an image for each of its elements
+-- a list is as long as the list of the images of its elements
 pub as-long : (A B : Type 0) (f : A → B) (xs : List A) (n : ℕ) → length (map f xs) ≡ n → length xs ≡ n
 as-long A B f xs n long = sym (length-map xs f) ∙ long
 
--- the images of the first elements, and a blank in each place after
+-- the images of the first `i` elements, and a blank in each place after them
 pub record FilledTo {A B : Type 0} (f : A → B) (xs : List A) (n : ℕ) (blank : B) (out : List B) (i : ℕ) : Type 0 where
   pub within : i ≤ n
   pub is : out ≡ filled f xs n blank i

@@ -16,15 +16,15 @@ use Rattle.sheets.specs.declared.rows.PathLine.{PathLine}
 use Rattle.sheets.specs.declared.rows.PathRows.{PathRows}
 use Rattle.preparing.specs.Preparing.{andThen, deposits, routeOf, quantitiesOf, emptyRegister}
 
--- a line of a bidder that a book has
+-- whether the line is that of a bidder that a book has
 abbrev pub isListed : BidderLine → Bool
 isListed x = ltb (x .bidder) bidderLimit
 
--- the quantities of the first slots
+-- the quantities of the first `count` slots
 abbrev pub quantitiesIn : ℕ → List PathLine → List ℕ
 quantitiesIn count slots = take (count * quantityWords) (quantitiesOf slots)
 
--- open over an empty register, with the quantities of the paths counted
+-- open with an empty register and the quantities of as many paths as are counted
 abbrev pub openWith : Book → Kind → Period → PathRows → Outcome
 openWith b kind period paths = «open» b emptyRegister kind period (quantitiesIn (paths .count) (paths .lines))
 

@@ -19,7 +19,7 @@ use Rattle.sheets.specs.Slots.{filled}
 use Rattle.sheets.specs.declared.rows.BidderLine.{BidderLine}
 use Rattle.sheets.specs.declared.rows.PathLine.{PathLine}
 
--- a call after others: it is made only where they were answered
+-- a call after others: it is made only if they were answered
 abbrev pub unlessRefused : ℕ → Outcome → Outcome → Outcome
 unlessRefused zero done next = next
 unlessRefused (suc n) done next = done
@@ -40,7 +40,7 @@ abbrev pub deposits : Book → List BidderLine → Outcome
 deposits b [] = answered b
 deposits b (x ∷ xs) = andThen (lineDeposits b x) (λ after. deposits after xs)
 
--- the routes of the first 16 paths, and past the last path routes that are no part of the book
+-- the routes of the first 16 paths, and after the last path empty routes, which are no part of the book
 abbrev pub routeOf : PathLine → Route
 routeOf p = record { direction = p .direction; zone = p .zone }
 

@@ -1,4 +1,4 @@
-// The calls before the first round: what they are, and the deposits of a sheet's bidders, in its order.
+// The calls before the first round: their rules, and the deposits of a sheet's bidders, in the order of the sheet.
 use funding::Funds;
 use market::answer::Answer;
 use market::answer::Outcome;
@@ -17,7 +17,7 @@ ghost use Rattle.keeping.specs.State.{State};
 ghost use Rattle.preparing.specs.Preparing as rules;
 ghost use Rattle.preparing.specs.PreparedSlots.{isListed};
 
-// A deposit, where the amount is not 0. The book is sound from the first deposit to the last, and so it is not tested at each.
+// A deposit, if the amount is not 0. The book is sound from the first deposit to the last, so it is not tested at each of them.
 fn deposit_if(book: Book, bidder: u32, to: Funds, amount: u64) -> Outcome
     requires { ⌜ State book rules.emptyRegister ⌝ }
     ensures { λ r. ⌜ r ≡ rules.depositIf amount book bidder to ⌝ }

@@ -1,4 +1,5 @@
--- What the lists of an answered round say: no rival award is worth more, and no bid or bidder is charged more than its bid value.
+-- What the lists of an answered round say: no rival award has a higher value, and no bid or bidder is charged more than its
+-- bid value.
 use mathlib.Core.Path.{_≡_, refl, sym, _∙_, ap, ap₂, subst}
 use mathlib.Core.Bool.{Bool, true, false, cond}
 use mathlib.Core.List.{List, [], _∷_}
@@ -67,7 +68,7 @@ below-under n f l same i =
     (λ k inside. below-at n (λ k. getD l k 0) k inside ∙ sym (same k inside)) in
     omega (arith, ap (λ (m : List ℕ). getD m i 0) alike, below-most n (λ k. getD l k 0) i)
 
--- where more is offered, what was within the offer still is
+-- a rival award that was within the offer is still within it where more is offered
 legal-with-more : (less more : List ℕ) (lots : List Lot) (gives : Rival) → ((path : ℕ) → getD less path 0 ≤ getD more path 0) → Legal less lots gives → Legal more lots gives
 legal-with-more less more lots gives under legal =
     record { own = legal .own; shared = λ path. omega (arith, legal .shared path, under path) }
@@ -194,6 +195,6 @@ module _ (b : Book) (words : List ℕ) (l : Lent) (none : answerNumber (round b 
   pub bids-within : BidsWithin (roundMade b words l)
   bids-within = charges-read (b .«path_count») (offeredNow b) bids marks (opened .right) answers wins charged
 
-  -- and so no bidder
+  -- and so no bidder is
   pub bidders-within : BiddersWithin (roundMade b words l)
   bidders-within = bidders-read (b .«path_count») (offeredNow b) bids marks (opened .right) answers wins charged

@@ -1,4 +1,4 @@
--- The words of a round's two lists, read back: each row stands at its bid's or its path's place.
+-- The words of a round's two lists, read back: each row is at its bid's or its path's place.
 use mathlib.Core.Path.{_≡_, refl, sym, _∙_, ap}
 use mathlib.Core.Bool.{Bool, true, false}
 use mathlib.Core.List.{List, [], _∷_, _++_, append-assoc}

@@ -1,5 +1,5 @@
--- Demand 3, proved: for every fresh book that is answered, every register of at least 6,144 words with any contents, and every list of the
--- eleven calls, refused ones included.
+-- Demand 3, proved: for every fresh book that is answered, every register of at least 6,144 words with any contents, and every
+-- list of the eleven calls, refused ones included.
 use mathlib.Core.Path.{_≡_, refl, sym, _∙_, ap, subst}
 use mathlib.Core.List.{List, []}
 use Prim.Native.Nat.{ℕ, _≤_}
@@ -24,7 +24,7 @@ use Rattle.promise.specs.Sums.{allIn, allOut}
 use Rattle.promise.proofs.RoundAnswers.{roundMade, no-rival-above, bids-within, bidders-within}
 use Rattle.promise.proofs.RunLaws.{each-call, run-same, step-not-unsound, run-money}
 
--- a fact of each answered round is one of each call that is an answered round
+-- a fact of each answered round holds of each call that is an answered round
 of-rounds : (holds : Made → Type 0) → ((b : Book) (words : List ℕ) (l : Lent) → answerNumber (roundMade b words l .reply .answer) ≡ 0 → holds (roundMade b words l)) → (b : Book) (words : List ℕ) (r : Request) → IfRound holds (engineMade r (engineStep b words r))
 of-rounds holds fact b words r is =
     subst (λ (what : Call). answerNumber (made what .reply .answer) ≡ 0 → holds (made what)) (sym is) (fact b words (r .lent))

@@ -1,5 +1,5 @@
--- Document 01, on the two lists that an answered round fills: "each 1 admitted or 0 over, bid value, MW, charge" and "each offered and
--- sold in this round, price or 0". What demand 3 says of a round is said of these lists.
+-- Document 01, on the two lists that an answered round fills: "each 1 admitted or 0 over, bid value, MW, charge" and "each
+-- offered and sold in this round, price or 0". What demand 3 says of a round is said of these lists.
 use mathlib.Core.Path.{_≡_}
 use mathlib.Core.Bool.{cond}
 use mathlib.Core.List.{List, [], _∷_}
@@ -32,8 +32,8 @@ offersMade m = below (m .book .«path_count») (offeredIn (m .reply .results))
 abbrev pub RivalOf : Made → Rival → Type 0
 RivalOf m gives = Legal (offersMade m) (lotsMade m) gives
 
--- "in each answered round its total bid value is at least that of every rival award"; "the engine's fills a bid's laminations in order
--- with its answered MW"
+-- "in each answered round its total bid value is at least that of every rival award"; "the engine's fills a bid's laminations
+-- in order with its answered MW"
 abbrev pub NoRivalAbove : Made → Type 0
 NoRivalAbove m =
     (gives : Rival) → RivalOf m gives → rivalValue gives (lotsMade m) ≤ totalValue (wonIn (m .reply .answers)) (bidsMade m)
@@ -51,7 +51,7 @@ ofBidder bidder amount bid [] = 0
 ofBidder bidder amount bid (b ∷ bs) =
     cond (eqb (b .bidder) bidder) (amount bid b) 0 + ofBidder bidder amount (bid + 1) bs
 
--- and so no bidder
+-- and so no bidder is charged more than the bid values of what its bids won
 abbrev pub BiddersWithin : Made → Type 0
 BiddersWithin m =
     (bidder : ℕ) →

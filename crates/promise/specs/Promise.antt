@@ -1,5 +1,5 @@
--- Demand 3, "one statement over the whole list": what is promised of every fresh book, every register and every list of calls. The
--- theorem that it holds is `promise` in proofs/ThePromise.antt.
+-- Demand 3, "one statement over the whole list": what is promised of every fresh book, every register and every list of calls.
+-- The theorem that it holds is `promise` in proofs/ThePromise.antt.
 use mathlib.Core.Path.{_≡_}
 use mathlib.Core.List.{List, [], _∷_}
 use Prim.Native.Nat.{ℕ}
@@ -21,10 +21,10 @@ EachCall holds (m ∷ ms) = holds m × EachCall holds ms
 abbrev pub NotUnsound : Made → Type 0
 NotUnsound m = answerNumber (m .reply .answer) ≡ 2 → ⊥
 
--- a fresh book of so many of these routes, a register with these words, and these calls
+-- a fresh book of the first `paths` of these routes, a register with these words, and these calls
 pub record Promise (routes : List Route) (paths : ℕ) (words : List ℕ) (calls : List Request) : Type 0 where
-  -- "the engine's answers are the rules' answers computed from the fresh book's paths and the calls' arguments alone": so are book and
-  -- entries after each call; the rules start from no entries, and never see the words
+  -- "the engine's answers are the rules' answers computed from the fresh book's paths and the calls' arguments alone": so are
+  -- book and entries after each call; the rules start from no entries, and never see the words
   pub by-the-rules : engineRun (freshBook routes paths) words calls ≡ rulesRun (freshBook routes paths) [] calls
   pub never-unsound : EachCall NotUnsound (engineRun (freshBook routes paths) words calls)
   -- "in each answered round its total bid value is at least that of every rival award"

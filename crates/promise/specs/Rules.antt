@@ -1,5 +1,6 @@
--- Document 01, "This paper's rules, fed with the fresh book's paths and the calls' arguments alone": the rules keep a book and the
--- entries that it counts as a list. There are no register words here, and what is read below is computed from nothing else.
+-- Document 01, "This paper's rules, fed with the fresh book's paths and the calls' arguments alone": the rules keep a book and
+-- the entries that it counts as a list. There are no register words here, and what is read below is computed from nothing
+-- else.
 use mathlib.Core.Bool.{not, _&&_}
 use mathlib.Core.List.{List, [], _∷_, _++_, map}
 use Prim.Native.Nat.{ℕ, zero, suc}

@@ -1,5 +1,5 @@
--- Document 01, "Its list starts from a fresh book and any register words; all else lent to a call is that call's own argument": a list of
--- calls taken one after another, by the engine and by the rules.
+-- Document 01, "Its list starts from a fresh book and any register words; all else lent to a call is that call's own argument":
+-- a list of calls taken one after another, by the engine and by the rules.
 use mathlib.Core.List.{List, [], _∷_}
 use Prim.Native.Nat.{ℕ}
 use Rattle.market.specs.declared.answer.Answer.{Answer}
@@ -32,7 +32,7 @@ pub record Made : Type 0 where
 
 -- ---- The engine, whose function `call` takes a step over the book and the words of the register
 
--- the call as it was made, its entries read in the register's words
+-- the call as it was made, with its entries read from the register's words
 abbrev pub engineMade : Request → Left → Made
 engineMade r left =
     record {

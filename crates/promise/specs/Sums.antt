@@ -1,5 +1,6 @@
--- Document 01, "Money in: answered cash deposits, letter draws, payments, rent, recoveries' shares. Money out: answered cash withdrawals,
--- payouts' amounts, disbursements' shares. A refused call counts for nothing in either.": summed from a list of calls and its answers.
+-- Document 01, "Money in: answered cash deposits, letter draws, payments, rent, recoveries' shares. Money out: answered cash
+-- withdrawals, payouts' amounts, disbursements' shares. A refused call counts for nothing in either.": summed from a list of
+-- calls and its answers.
 use mathlib.Core.List.{List, [], _∷_}
 use Prim.Native.Nat.{ℕ, _+_}
 use lib.ListN.{take}

@@ -1,4 +1,4 @@
--- What a line says, read field after field.
+-- What a line says, read field by field.
 use mathlib.Core.Path.{_≡_, sym, _∙_, ap, ap₂}
 use mathlib.Core.List.{List, [], _∷_}
 use Prim.Native.Nat.{ℕ, suc, _+_, _-_, _≤_, _<_}
@@ -20,18 +20,18 @@ use Rattle.reading.specs.declared.Word.{Word}
 -- ---- Numbers one after another
 
 module _ (limit last : ℕ) (bytes : List ℕ) (at value : ℕ) where
-  -- the last of them
+  -- the last number
   pub said-last : value ≡ fieldAt limit last (drop at bytes) .value → value ∷ [] ≡ numbersSaid limit last 1 (drop at bytes)
   said-last is = ap (λ (v : ℕ). v ∷ []) is
 
-  -- one before others
+  -- a number with others after it
   pub said-more : (k used : ℕ) (vs : List ℕ) → value ≡ fieldAt limit space (drop at bytes) .value → used ≡ fieldAt limit space (drop at bytes) .used → vs ≡ numbersSaid limit last (suc k) (drop (at + used) bytes) → value ∷ vs ≡ numbersSaid limit last (suc (suc k)) (drop at bytes)
   said-more k used vs is long rest =
       ap₂ (λ (v : ℕ) (ws : List ℕ). v ∷ ws) is
       (rest
       ∙ ap (numbersSaid limit last (suc k)) (sym (drop-drop used at bytes) ∙ ap (λ (n : ℕ). drop n (drop at bytes)) long))
 
--- a bidder's three
+-- the three numbers of a bidder's line
 pub bidder-said : (bytes : List ℕ) (at : ℕ) (f g h : Field) → f ≡ fieldAt amountTop space (drop at bytes) → g ≡ fieldAt amountTop space (drop (at + f .used) bytes) → h ≡ fieldAt amountTop newline (drop (at + f .used + g .used) bytes) → record { bidder = f .value; cash = g .value; letter = h .value } ≡ bidderAt (drop at bytes)
 bidder-said bytes at f g h first second third =
     let value : Field → ℕ = λ (e : Field). e .value in
@@ -41,7 +41,7 @@ bidder-said bytes at f g h first second third =
     (said-more amountTop newline bytes (at + f .used) (g .value) 0 (g .used) (h .value ∷ []) (ap value second) (ap used second)
     (said-last amountTop newline bytes (at + f .used + g .used) (h .value) (ap value third))))
 
--- two days
+-- the two days of a title
 abbrev daysOf : List ℕ → Period
 daysOf said = record { first = dayNumber (getD said 0 0); last = dayNumber (getD said 1 0) }
 
@@ -56,7 +56,7 @@ module _ (bytes : List ℕ) where
   abbrev pub WordHere : ℕ → ℕ → Word → Type 0
   WordHere stop at w = (w .value ≡ fieldAt wordTop stop (drop at bytes) .value) × (w .used ≡ fieldAt wordTop stop (drop at bytes) .used)
 
-  -- a path's five, behind its direction
+  -- the five numbers of a path's line, after its direction
   pub path-said : (way : Direction) (at : ℕ) (a b c d e : Word) → WordHere space at a → WordHere space (at + a .used) b → WordHere space (at + a .used + b .used) c → WordHere space (at + a .used + b .used + c .used) d → WordHere newline (at + a .used + b .used + c .used + d .used) e → record { direction = way; zone = a .value; base = b .value; upper = c .value; first = d .value; second = e .value } ≡ pathOf way (numbersSaid wordTop newline 5 (drop at bytes))
   path-said way at a b c d e first second third fourth fifth =
       ap (pathOf way)
@@ -95,12 +95,12 @@ module _ (bytes : List ℕ) (at : ℕ) where
       let over : length (drop at bytes) ≤ 2 = omega (arith, length-drop at bytes) in
       drop-of-length-le bytes whole ∙ sym (drop-of-length-le (drop at bytes) over)
 
-  -- its numbers, read at the place behind the direction
+  -- its numbers, read at the place after the direction
   pub route-said : (way : Direction) (place : ℕ) (line : PathLine) → way ≡ directionOf (getD (drop at bytes) 0 0) → drop place bytes ≡ drop 2 (drop at bytes) → line ≡ pathOf way (numbersSaid wordTop newline 5 (drop place bytes)) → line ≡ routeIn (drop at bytes)
   route-said way place line is there said =
       said ∙ ap₂ (λ (d : Direction) (l : List ℕ). pathOf d (numbersSaid wordTop newline 5 l)) is there
 
-  -- what stands behind its number
+  -- what comes after its number
   pub behind-number : (f : Field) (line : PathLine) → f ≡ fieldAt wordTop space (drop at bytes) → line ≡ routeIn (drop (at + f .used) bytes) → line ≡ pathAt (drop at bytes)
   behind-number f line is route =
       route

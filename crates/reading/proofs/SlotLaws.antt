@@ -20,21 +20,21 @@ use Rattle.sheets.proofs.RightLaws.{lines-count}
 use Rattle.sheets.specs.Reading.{linesIn, sectionSays}
 use Rattle.sheets.specs.Slots.{filled}
 
--- a line asks of the next one an amount and one more, or little more than was asked of it
+-- what a line asks of the next one is at most an amount plus 1, or 1 more than was asked of it
 pub next-bound : (part : Part) (state i : ℕ) (text : List ℕ) → state ≤ amountTop + 1 + i → lineAt part state text .next ≤ amountTop + 1 + (i + 1)
 next-bound Bidders state i text h = omega (arith, field-within amountTop space text (fieldAt amountTop space text) refl)
 next-bound Paths state i text h = omega arith
 next-bound Bids state i text h = omega arith
 
 module _ {X : Type 0} (part : Part) (read : List ℕ → X) where
-  -- the first of them
+  -- the first `n` of the lines are what is read if there are only `n`
   pub lines-take : (n k state : ℕ) (text : List ℕ) → n ≤ k → take n (linesIn part read k state text) ≡ linesIn part read n state text
   lines-take zero k state text h = refl
   lines-take (suc n) zero state text h = absurd (let none : ⊥ = omega arith in none)
   lines-take (suc n) (suc k) state text h =
       ap (read text ∷_) (lines-take n k (lineAt part state text .next) (drop (lineAt part state text .used) text) (omega arith))
 
--- ---- A loop that reads so many lines, each into its slot
+-- ---- A loop that reads `count` lines, each into its slot
 
 pub record SlotsTo {X : Type 0} (part : Part) (read : List ℕ → X) (size : ℕ) (none : X) (bytes : List ℕ) (at count : ℕ) (slots : List X) (place state i : ℕ) : Type 0 where
   pub fits : place ≤ length bytes
@@ -50,7 +50,7 @@ module _ {X : Type 0} (part : Part) (read : List ℕ → X) (size : ℕ) (none :
   all-count : length all ≡ count
   all-count = lines-count part read count 0 (drop at bytes)
 
-  -- before the first
+  -- before the first line
   pub none-slotted : (blank : X) → blank ≡ none → at ≤ length bytes → SlotsTo part read size none bytes at count (replicate size blank) at 0 0
   none-slotted blank is inside =
       record {
@@ -62,7 +62,7 @@ module _ {X : Type 0} (part : Part) (read : List ℕ → X) (size : ℕ) (none :
       }
 
   module _ (slots : List X) (place state i : ℕ) (s : SlotsTo part read size none bytes at count slots place state i) where
-    -- behind the last
+    -- after the last line
     pub all-slotted : count ≤ size → count ≤ i → slots ≡ filled size none all
     all-slotted room end =
         let full : i ≡ count = omega (arith, s .within) in
@@ -109,7 +109,7 @@ module _ {X : Type 0} (part : Part) (read : List ℕ → X) (size : ℕ) (none :
 -- ---- A section
 
 module _ {X : Type 0} (part : Part) (read : List ℕ → X) (size : ℕ) (none : X) where
-  -- past the slots a line changes nothing
+  -- lines that have no slot change nothing
   slots-cap : (k : ℕ) (text : List ℕ) → filled size none (linesIn part read (min k size) 0 text) ≡ filled size none (linesIn part read k 0 text)
   slots-cap k text = go (leb k size) refl
     where
@@ -145,7 +145,7 @@ module _ {X : Type 0} (part : Part) (read : List ℕ → X) (bytes : List ℕ) (
     pub section-slots : slots ≡ filled size none (linesIn part read value 0 behindCount) → slots ≡ filled size none says
     section-slots is = is ∙ ap (filled size none) lines-are
 
-    -- at most as many of them as there are slots
+    -- as many of them as there are slots were read
     pub section-capped : (n : ℕ) → n ≡ min value size → slots ≡ filled size none (linesIn part read n 0 behindCount) → slots ≡ filled size none says
     section-capped n few is =
         section-slots

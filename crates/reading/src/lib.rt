@@ -19,13 +19,13 @@ ghost use Rattle.lines.specs.declared.part.Part.the-variants.{Bidders, Paths};
 ghost use Rattle.sheets.specs.Reading.{linesIn, bidderAt, directionOf, pathOf, routeIn, pathAt, sectionSays, daysIn};
 ghost use Rattle.sheets.specs.Slots.{filled, noBidderLine, noPathLine, bidderRows, pathRows};
 
-// Where the days stand in a title.
+// The place of the days in a title.
 const DAYS: usize = 6;
 
 // How many paths a book has.
 const PATHS: u64 = Engine::PATHS as u64;
 
-// A number of 32 bits that was read, and the bytes that it takes with the byte that ends it; 0 bytes where it does not stand there.
+// A number of 32 bits that was read, and the bytes that it takes together with the byte that ends it: 0 bytes if it is not there.
 struct Word {
     value: u32,
     used: usize,
@@ -65,7 +65,7 @@ fn bidder_at(bytes: &[u8], at: usize) -> BidderLine
     }
 }
 
-// The direction whose byte stands at a place: an export where none does.
+// The direction whose byte is at a place; an export if there is none.
 fn direction_at(bytes: &[u8], at: usize) -> Direction
     requires { ⌜ at ≤ length (now bytes) ⌝ }
     ensures { λ r. ⌜ r ≡ directionOf (getD (drop at (now (bytes .entry))) 0 0) ⌝ }
@@ -91,7 +91,7 @@ fn two_on(bytes: &[u8], at: usize) -> usize
     at + 2
 }
 
-// What a path's line says behind its direction: zone, base, FUL, A and B.
+// What a path's line says after its direction: zone, base, FUL, A and B.
 fn numbers_at(direction: Direction, bytes: &[u8], at: usize) -> PathLine
     requires { ⌜ at ≤ length (now bytes) ⌝ }
     ensures { λ r. ⌜ r ≡ pathOf direction (numbersSaid wordTop newline 5 (drop at (now (bytes .entry)))) ⌝ }
@@ -115,7 +115,7 @@ fn numbers_at(direction: Direction, bytes: &[u8], at: usize) -> PathLine
     }
 }
 
-// A path's line behind its number.
+// A path's line after its number.
 fn route_at(bytes: &[u8], at: usize) -> PathLine
     requires { ⌜ at ≤ length (now bytes) ⌝ }
     ensures { λ r. ⌜ r ≡ routeIn (drop at (now (bytes .entry))) ⌝ }
@@ -146,7 +146,7 @@ fn no_bidder_line() -> BidderLine
     }
 }
 
-// So many bidders' lines from a place on, in slots.
+// The first `count` bidders' lines from a place on, in slots.
 fn bidder_slots(bytes: &[u8], at: usize, count: usize) -> [BidderLine; Engine::BIDDERS]
     requires { ⌜ at ≤ length (now bytes) ⌝ }
     requires { ⌜ count ≤ bidderLimit ⌝ }
@@ -193,7 +193,7 @@ fn no_path_line() -> PathLine
     }
 }
 
-// So many paths' lines from a place on, in slots.
+// The first `count` paths' lines from a place on, in slots.
 fn path_slots(bytes: &[u8], at: usize, count: usize) -> [PathLine; Engine::PATHS]
     requires { ⌜ at ≤ length (now bytes) ⌝ }
     requires { ⌜ count ≤ pathLimit ⌝ }
@@ -212,7 +212,7 @@ fn path_slots(bytes: &[u8], at: usize, count: usize) -> [PathLine; Engine::PATHS
     slots
 }
 
-// How many of so many paths have a slot.
+// How many of `count` paths have a slot.
 fn slotted(count: u64) -> usize
     ensures { λ r. ⌜ r ≡ min count pathLimit ⌝ }
 {

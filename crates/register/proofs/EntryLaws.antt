@@ -20,11 +20,11 @@ use Rattle.register.specs.Entries.{soundEntry, goes, without}
 use Rattle.register.specs.Words.{entryAt, entriesOf, putAt, written}
 use Rattle.register.specs.declared.Removal.{Removal}
 
--- one entry more is counted
+-- counting one more entry
 pub entries-more : (words : List ℕ) (i : ℕ) → entriesOf words (i + 1) ≡ entriesOf words i ++ (entryAt words i ∷ [])
 entries-more words i = rw add-one
 
--- an entry put past what is written, at the place that its count says
+-- an entry put after the `k` entries that are written is appended to them
 pub put-next : (words : List ℕ) (es : List Entry) (k : ℕ) (e : Entry) → length es ≡ k → putAt (written words es) k e ≡ written words (es ++ (e ∷ []))
 put-next words es k e h = ap (λ (n : ℕ). putAt (written words es) n e) (sym h) ∙ put-appends words es e
 
@@ -34,7 +34,7 @@ module _ (f : Entry → Entry) (words₀ : List ℕ) (i : ℕ) where
   pub changed-length : length (map f (entriesOf words₀ i)) ≡ i
   changed-length = length-map (entriesOf words₀ i) f ∙ entries-length words₀ i
 
-  -- what was read at the next place, changed and put back there
+  -- the entry at the next place is read, changed and put back there
   pub change-next : (words : List ℕ) (e : Entry) → words ≡ written words₀ (map f (entriesOf words₀ i)) → e ≡ f (entryAt words i) → putAt words i e ≡ written words₀ (map f (entriesOf words₀ (i + 1)))
   change-next words e now is =
       let es = entriesOf words₀ i in
@@ -65,12 +65,12 @@ without-length what (x ∷ es) = go (goes what x) (without-length what es)
     go true h = omega arith
     go false h = omega arith
 
--- the entry at `i` is looked at, where `kept` entries have stayed before it
+-- one turn looks at the entry at `i`, where `kept` of the entries before it have stayed
 module _ (what : Removal) (words₀ words : List ℕ) (i kept : ℕ) (now : words ≡ written words₀ (without what (entriesOf words₀ i))) (long : kept ≡ length (without what (entriesOf words₀ i))) where
   pub kept-within : kept ≤ i
   kept-within = omega (arith, without-length what (entriesOf words₀ i), entries-length words₀ i)
 
-  -- the next entry, read past what has been written, is the one that was there at first
+  -- the next entry, read after what has been written, is the one that was there at the start
   next-entry : entryAt words i ≡ entryAt words₀ i
   next-entry = ap (λ (w : List ℕ). entryAt w i) now ∙ entry-past words₀ (without what (entriesOf words₀ i)) i (omega (arith, kept-within))
 

@@ -1,5 +1,5 @@
--- Laws about entries in words. Three carry the register: an entry put at the end of what is written appends it, the places past
--- what is written are as they were, and entries written are the entries read.
+-- Laws about entries in words. Three of them matter most: an entry put at the end of what is written is appended to it, the
+-- places after what is written are as they were, and the entries that are read are those that were written.
 use mathlib.Core.Path.{_≡_, refl, sym, _∙_, ap, ap₂}
 use mathlib.Core.List.{List, [], _∷_, _++_}
 use Prim.Native.Nat.{ℕ, zero, suc, _+_, _*_, _-_, _≤_, _<_}
@@ -33,13 +33,13 @@ pub length-snoc : {A : Type 0} (l : List A) (a : A) → length (l ++ (a ∷ []))
 length-snoc l a = length-append l (a ∷ [])
 
 module _ (words : List ℕ) (es : List Entry) where
-  -- what is written has the length of the words
+  -- writing entries does not change the number of words
   pub written-length : length es * entryWords ≤ length words → length (written words es) ≡ length words
   written-length h =
       length-append (allWords es) (drop (length es * entryWords) words)
       ∙ omega (arith, all-words-length es, length-drop (length es * entryWords) words)
 
-  -- the places past what is written are as they were
+  -- the places after what is written are as they were
   pub past-written : (k : ℕ) → length es * entryWords ≤ k → getD (written words es) k 0 ≡ getD words k 0
   past-written k h =
       let n = length (allWords es) in
@@ -66,7 +66,7 @@ module _ (words : List ℕ) (es : List Entry) where
         state = past-written (at + 5) (omega arith) j;
       }
 
-  -- an entry put at the end of what is written appends it
+  -- an entry put at the end of what is written is appended to it
   pub put-appends : (e : Entry) → putAt (written words es) (length es) e ≡ written words (es ++ (e ∷ []))
   put-appends e =
       let n = length es * entryWords in
@@ -81,11 +81,11 @@ module _ (words : List ℕ) (es : List Entry) where
       ∙ ap₂ (λ (a : List ℕ) (k : ℕ). a ++ drop k words) (sym (all-words-snoc es e))
       (let same : n + entryWords ≡ length (es ++ (e ∷ [])) * entryWords = omega (arith, length-snoc es e) in same)
 
--- nothing written leaves the words
+-- writing no entry leaves the words as they were
 pub nothing-written : (words : List ℕ) → written words [] ≡ words
 nothing-written words = refl
 
--- the counted entries: how many, and which stands where
+-- the counted entries: how many they are, and which one is at each place
 pub entries-length : (words : List ℕ) (n : ℕ) → length (entriesOf words n) ≡ n
 entries-length words zero = refl
 entries-length words (suc n) = omega (arith, length-snoc (entriesOf words n) (entryAt words n), entries-length words n)
@@ -107,7 +107,7 @@ entries-at words zero i d h = absurd (let no-place : ⊥ = omega arith in no-pla
 entries-at words (suc n) i d h =
     snoc-at (entriesOf words n) (entryAt words n) d (entryAt words) n i (entries-length words n) refl (entries-at words n i d) (decLt i n) h
 
--- an entry's own words put back
+-- putting an entry back where it was read changes nothing
 put-back : (words : List ℕ) (i : ℕ) → (i + 1) * entryWords ≤ length words → putAt words i (entryAt words i) ≡ words
 put-back words i h =
     let at = i * entryWords in
@@ -115,7 +115,7 @@ put-back words i h =
     (six-stores words at (getD words at 0) (getD words (at + 1) 0) (getD words (at + 2) 0) (getD words (at + 3) 0) (getD words (at + 4) 0) (getD words (at + 5) 0) (omega arith))
     ∙ simp set-getD
 
--- the entries read, written back, change nothing
+-- writing back the entries that were read changes nothing
 pub written-back : (words : List ℕ) (n : ℕ) → n * entryWords ≤ length words → written words (entriesOf words n) ≡ words
 written-back words zero h = refl
 written-back words (suc n) h =
@@ -124,7 +124,7 @@ written-back words (suc n) h =
     ∙ ap₂ (λ (w : List ℕ) (k : ℕ). putAt w k (entryAt words n)) (written-back words n (omega arith)) (entries-length words n)
     ∙ put-back words n (omega arith)
 
--- where the words of an entry lie
+-- where the words of an entry are
 words-at : (es : List Entry) (rest : List ℕ) (i k : ℕ) (d : Entry) → k < entryWords → i < length es → getD (allWords es ++ rest) (i * entryWords + k) 0 ≡ getD (wordsOf (getD es i d)) k 0
 words-at [] rest i k d p h = absurd (let no-place : ⊥ = omega arith in no-place)
 words-at (e ∷ es) rest zero k d p h =
@@ -136,7 +136,7 @@ words-at (e ∷ es) rest (suc i) k d p h =
     ∙ getD-append-add (wordsOf e) (allWords es ++ rest) (i * entryWords + k) 0
     ∙ words-at es rest i k d p (omega arith)
 
--- the entry at a place of what is written
+-- the entry read at a place of what is written is the one written there
 pub entry-within : (words : List ℕ) (es : List Entry) (i : ℕ) (d : Entry) → i < length es → entryAt (written words es) i ≡ getD es i d
 entry-within words es i d h =
     let rest = drop (length es * entryWords) words in
@@ -155,7 +155,7 @@ entry-within words es i d h =
       state = words-at es rest i 5 d (lit< tt) h j;
     }
 
--- entries written are the entries read
+-- the entries that are read are those that were written
 first-read : (words : List ℕ) (es : List Entry) (n : ℕ) (d : Entry) → n ≤ length es → entriesOf (written words es) n ≡ take n es
 first-read words es zero d h = refl
 first-read words es (suc n) d h =

@@ -11,7 +11,7 @@ use Rattle.register.specs.declared.Removal.{Removal}
 use Rattle.register.specs.declared.Removal.the-variants.{PendingOf, EndedBefore}
 
 -- "A sound register entry has a bidder to 31, a path of the book, 1 to 9,999 MW, first day at most last, last at most 65,535,
--- and state 1 or 2.", for a book with so many paths
+-- and state 1 or 2.", for a book with `paths` paths
 abbrev pub soundEntry : ℕ → Entry → Bool
 soundEntry paths e =
     ltb (e .bidder) bidderLimit
@@ -29,7 +29,7 @@ withState e state =
 abbrev pub issuedTo : ℕ → Entry → Entry
 issuedTo bidder e = cond (eqb (e .bidder) bidder) (withState e issued) e
 
--- what goes: at default "its pending entries are removed"; retire "removes issued entries whose last day is before it"
+-- what is removed: at default "its pending entries are removed"; retire "removes issued entries whose last day is before it"
 abbrev pub goes : Removal → Entry → Bool
 goes (PendingOf bidder) e = eqb (e .bidder) bidder && eqb (e .state) pending
 goes (EndedBefore day) e = eqb (e .state) issued && ltb (e .period .last .0) (day .0)

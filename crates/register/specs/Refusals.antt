@@ -1,4 +1,4 @@
--- The refusals of every call that is lent the register, before its own: "1 a lent buffer shorter than stated; 2 a book or a
+-- The refusals that every call that is lent the register has before its own: "1 a lent buffer shorter than stated; 2 a book or a
 -- counted register entry that is not sound".
 use mathlib.Core.Bool.{Bool, not, _&&_}
 use mathlib.Core.List.{List, [], _∷_}

@@ -22,7 +22,7 @@ entryAt words i =
       state = getD words (i * entryWords + 5) 0;
     }
 
--- the first entries, as many as are counted
+-- the first `n` entries, where `n` is the count
 abbrev pub entriesOf : List ℕ → ℕ → List Entry
 entriesOf words zero = []
 entriesOf words (suc n) = entriesOf words n ++ (entryAt words n ∷ [])
@@ -36,10 +36,10 @@ abbrev pub allWords : List Entry → List ℕ
 allWords [] = []
 allWords (e ∷ es) = wordsOf e ++ allWords es
 
--- the words with an entry put at a place
+-- the words after an entry is put at a place
 abbrev pub putAt : List ℕ → ℕ → Entry → List ℕ
 putAt words i e = take (i * entryWords) words ++ wordsOf e ++ drop (i * entryWords + entryWords) words
 
--- entries written from the front on, and every word at or past their count as it was
+-- the words after entries are written from the front: every word after the entries is as it was
 abbrev pub written : List ℕ → List Entry → List ℕ
 written words es = allWords es ++ drop (length es * entryWords) words

@@ -1,4 +1,4 @@
-// The register's entries in the lent words. Nothing above this crate knows how an entry lies in them.
+// The register's entries in the lent words. No crate above this one knows how an entry is stored in them.
 use market::book::Entry;
 use market::book::Period;
 use market::engine::Engine;
@@ -11,7 +11,7 @@ ghost use lib.ListN.{length};
 ghost use Rattle.market.specs.Limits.{entryWords};
 ghost use Rattle.register.specs.Words.{entryAt, entriesOf, putAt, written};
 
-// Which entries are to go: a bidder's pending ones, or issued ones that ended before a day.
+// Which entries are to be removed: a bidder's pending ones, or issued ones that ended before a day.
 pub enum Removal {
     PendingOf(u32),
     EndedBefore(Day),
@@ -35,7 +35,7 @@ pub fn read(words: &[u32], i: usize) -> Entry
     }
 }
 
-// An entry put at a place.
+// Puts an entry at a place.
 pub fn put(words: &mut [u32], i: usize, entry: Entry)
     requires { ⌜ (i + 1) * entryWords ≤ length (now words) ⌝ }
     ensures { λ r. ⌜ now (words .exit) ≡ putAt (now (words .entry)) i entry ⌝ }
@@ -53,7 +53,7 @@ pub fn put(words: &mut [u32], i: usize, entry: Entry)
     words[at + 5] = entry.state;
 }
 
-// The entry past the counted ones, added to them.
+// Adds an entry after the counted ones.
 pub fn append(words: &mut [u32], count: usize, entry: Entry)
     requires { ⌜ (count + 1) * entryWords ≤ length (now words) ⌝ }
     ensures { λ r. ⌜ now (words .exit) ≡ written (now (words .entry)) (entriesOf (now (words .entry)) count ++ (entry ∷ [])) ⌝ }

@@ -35,7 +35,7 @@ fn sound_entry(paths: usize, entry: Entry) -> bool
         & ((state == Engine::PENDING) | (state == Engine::ISSUED))
 }
 
-// Whether each counted entry is sound for a book with so many paths.
+// Whether each of the first `count` entries is sound for a book with `paths` paths.
 fn sound_entries(words: &[u32], count: usize, paths: usize) -> bool
     requires { ⌜ count * entryWords ≤ length (now words) ⌝ }
     ensures { λ r. ⌜ r ≡ every (soundEntry paths) (entriesOf (now (words .entry)) count) ⌝ }
@@ -48,7 +48,7 @@ fn sound_entries(words: &[u32], count: usize, paths: usize) -> bool
     true
 }
 
-// The refusals 1 and 2 of a call that is lent the register; 0 where there is none.
+// Refusal 1 or 2 of a call that is lent the register; 0 where there is neither.
 pub fn refusal(book: Book, words: &[u32]) -> u32
     ensures { λ r. ⌜ r ≡ firstOf (registerRefusals book (now (words .entry))) ⌝ }
 {

@@ -32,7 +32,7 @@ pub fn refusal(book: Book, amount: Cents) -> u32
     Refusal::NONE
 }
 
-// The book with rent in its account.
+// The book with the rent added to its account.
 pub fn with_rent(book: Book, amount: Cents) -> Book
     requires { ⌜ soundBook book ≡ true ⌝ }
     requires { ⌜ amount .0 ≤ moneyLimit ⌝ }

@@ -1,4 +1,4 @@
--- No answer tells of more bids than there is room for, and none but a round's of any.
+-- No answer tells of more bids than there is room for, and only a round's answer tells of any.
 use mathlib.Core.Path.{_≡_, refl}
 use mathlib.Core.Bool.{Bool, true, false, cond}
 use mathlib.Core.List.{List}
@@ -38,7 +38,7 @@ few : (b : Book) (n : ℕ) (taken : Outcome) (most : ℕ) → (n ≡ 0 → bidsI
 few b zero taken most h = h refl
 few b (suc n) taken most h = omega arith
 
--- a call that answers nothing but that it is done, or a draw, tells of none
+-- a call that answers only that it is done tells of no bids
 none : (b : Book) (n : ℕ) (after : Book) → bidsIn (decided b n (answered after) .answer) ≤ 0
 none b n after = few b n (answered after) 0 (λ e. omega arith)
 
@@ -71,7 +71,7 @@ answers-few b words (Disburse total) l =
 answers-few b words (Recover total) l =
     none b (firstOf (pools.refusals In b total (columnsOf l))) (withAccount b (pools.accountAfter In b total))
 
--- so a list for the answers of bids that is as long as the call takes has room for them
+-- so the list that a call is lent for the answers of bids has room for them
 pub answers-fit : (b : Book) (words : List ℕ) (call : Call) (l : Lent) → (bidsIn (step b words call l .outcome .answer) ≤ bidLimit) × (bidsIn (step b words call l .outcome .answer) * bidAnswerSize ≤ length (forRound call bidAnswerWords))
 answers-fit b words call l = go (isRound call) (bidsIn (step b words call l .outcome .answer)) (answers-few b words call l)
   where

@@ -31,7 +31,7 @@ use Rattle.replay.specs.Replay.{column, lentWith, isRound, leftBy, offer
 pub lent-same : (list : List ℕ) (prices : List ℤ) (amounts answers results scratch p q r s : List ℕ) → p ≡ column 0 list → q ≡ column 1 list → r ≡ column 2 list → s ≡ column 3 list → lent list list prices p q r s amounts answers results scratch ≡ lentWith list prices amounts answers results scratch
 lent-same list prices amounts answers results scratch p q r s a b c d = rw (a, b, c, d)
 
--- what a call leaves, its lists as long as it takes them: t is whether it is a round
+-- what a call leaves where its lists are as long as it takes them; `t` says whether it is a round
 pub left-same : (b : Book) (register : List ℕ) (call : Call) (list : List ℕ) (prices : List ℤ) (t : Bool) → isRound call ≡ t → step b register call (lentWith list prices (replicate bidderLimit 0) (replicate (cond t bidAnswerWords 0) 0) (replicate pathAnswerWords 0) (replicate (cond t scratchWords 0) 0)) ≡ leftBy b register call list prices
 left-same b register call list prices t e =
     ap (λ (x : Bool). step b register call (lentWith list prices (replicate bidderLimit 0) (replicate (cond x bidAnswerWords 0) 0) (replicate pathAnswerWords 0) (replicate (cond x scratchWords 0) 0))) (sym e)
@@ -63,7 +63,7 @@ pub fresh-taken : (j : Journal) (n : ℕ) (b : Book) → n ≡ 0 → freshState 
 fresh-taken j zero b h = refl
 fresh-taken j (suc n) b h = absurd (let no : ⊥ = omega arith in no)
 
--- what is printed behind a call, by what it tells
+-- the reply to a call, by what it tells
 module _ (o : Outcome) (amounts answers results : List ℕ) (count : ℕ) (e : count ≡ length (pathsOf (o .book))) (tell : Tell) where
   told : (t : Tell) → tell ≡ t → textBy t o amounts answers results ≡ textBy tell o amounts answers results
   told t is = ap (λ (x : Tell). textBy x o amounts answers results) (sym is)
@@ -83,7 +83,7 @@ module _ (o : Outcome) (amounts answers results : List ℕ) (count : ℕ) (e : c
   pub text-amounts : tell ≡ tells.Amounts → replyText (o .answer) Listed amounts answers count results ≡ textBy tell o amounts answers results
   text-amounts is = counted Listed amounts ∙ told tells.Amounts is
 
--- what is printed behind a call is what it left
+-- the reply to a call is made of what the call left
 pub call-text : (call : Call) (left : Left) (tell : Tell) (o : Outcome) (amounts answers results : List ℕ) → tell ≡ tellBy call → o ≡ left .outcome → amounts ≡ left .amounts → answers ≡ left .answers → results ≡ left .results → textBy tell o amounts answers results ≡ callText call left
 call-text call left tell o amounts answers results t p q r s =
     ap (λ (x : Tell). textBy x o amounts answers results) t
@@ -92,7 +92,7 @@ call-text call left tell o amounts answers results t p q r s =
     ∙ ap (λ (l : List ℕ). textBy (tellBy call) (left .outcome) (left .amounts) l results) r
     ∙ ap (λ (l : List ℕ). textBy (tellBy call) (left .outcome) (left .amounts) (left .answers) l) s
 
--- the line of a fresh book does not look at the register, and leaves it
+-- the line of a fresh book does not look at the register, and leaves it as it was
 module _ (j : Journal) (register : List ℕ) (f : FreshLine) where
   abbrev stepOf : List ℕ → Bool → Stepped
   stepOf words t = cond t (freshBy j words (fresh (f .routes) (f .count))) (turnedAway j words)
@@ -118,7 +118,7 @@ module _ (j : Journal) (register : List ℕ) (f : FreshLine) where
       go true = refl
       go false = refl
 
--- a line that is that of a fresh book, and one that is not
+-- the line of a fresh book, and any other line
 module _ (j : Journal) (register line : List ℕ) where
   abbrev asSaid : Stepped
   asSaid = saidStep j register (lineSaid wordRoom zones line) (lineWords wordRoom line) (linePrices zones line)

@@ -13,7 +13,7 @@ use Rattle.market.specs.Limits.{pathLimit}
 use Rattle.market.specs.declared.book.Path.{Path}
 use Rattle.replay.specs.Replay.{withinSlots, offerOf}
 
--- the first so many of a list, counted
+-- the first `n` elements of a list, taken again by their count
 take-counted : {X : Type 0} (n : ℕ) (l : List X) → take (length (take n l)) l ≡ take n l
 take-counted zero l = refl
 take-counted (suc n) [] = refl

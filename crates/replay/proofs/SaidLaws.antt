@@ -1,4 +1,4 @@
--- Laws about the line of a call: its lists are those that were laid, and its step is the rules'.
+-- Laws about the line of a call: its lists are those that were written, and its step is the rules'.
 use mathlib.Core.Path.{_≡_, sym, _∙_, ap, ap₂}
 use mathlib.Core.List.{List}
 use Prim.Native.Nat.{ℕ, _≤_}
@@ -16,7 +16,7 @@ use Rattle.journal_lines.specs.declared.Said.the-variants.{Faulty, Called}
 use Rattle.replay.specs.declared.Journal.{Journal}
 use Rattle.replay.specs.Replay.{wordRoom, turnedAway, callStep, saidStep}
 
--- what was laid at the front of a list
+-- what was written at the front of a list
 laid-room : {X : Type 0} (xs list : List X) → length xs ≤ length (laid xs list)
 laid-room xs list = omega (arith, length-append xs (drop (length xs) list))
 

@@ -1,4 +1,4 @@
--- docs/JOURNAL.md: one line of a journal, what is printed behind it, and the state after it. The calls are the engine's own, by `step`.
+-- docs/JOURNAL.md: one line of a journal, the reply to it, and the state after it. The calls are the engine's own, by `step`.
 use mathlib.Core.Bool.{Bool, true, false, cond}
 use mathlib.Core.List.{List, [], map}
 use Prim.Native.Nat.{ℕ, zero, suc, _*_}
@@ -40,7 +40,7 @@ lineBytes = 65536
 abbrev pub wordRoom : ℕ
 wordRoom = 32768
 
--- "32 provincial charges, 32 export charges, 32 energies at meters, 32 at interties", one column behind another
+-- "32 provincial charges, 32 export charges, 32 energies at meters, 32 at interties", one column after another
 abbrev pub column : ℕ → List ℕ → List ℕ
 column k list = take bidderLimit (drop (k * bidderLimit) list)
 
@@ -57,7 +57,7 @@ lentWith list prices amounts answers results scratch =
     results
     scratch
 
--- whether a call is a round, which alone takes a list for the answers of bids, and a scratch
+-- whether a call is a round: only a round takes a list for the answers of bids, and a scratch
 abbrev pub isRound : Call → Bool
 isRound (Deposit bidder to amount) = false
 isRound (Withdraw bidder from amount) = false
@@ -75,13 +75,13 @@ isRound (Recover total) = false
 abbrev pub forRound : Call → ℕ → List ℕ
 forRound call n = replicate (cond (isRound call) n 0) 0
 
--- what a call leaves, its lists for answers full of zeros
+-- what a call leaves where its lists for answers are full of zeros
 abbrev pub leftBy : Book → List ℕ → Call → List ℕ → List ℤ → Left
 leftBy b register call list prices =
     step b register call
     (lentWith list prices (replicate bidderLimit 0) (forRound call bidAnswerWords) (replicate pathAnswerWords 0) (forRound call scratchWords))
 
--- ---- What is printed behind a call
+-- ---- The reply to a call
 
 -- what an answered call tells besides its number
 abbrev pub tellBy : Call → Tell
@@ -117,7 +117,7 @@ callText call left = textBy (tellBy call) (left .outcome) (left .amounts) (left 
 
 -- ---- A line
 
--- the state after a line, and what is printed behind it
+-- the state after a line, and the reply to it
 pub record Stepped : Type 0 where
   pub journal : Journal
   pub register : List ℕ

@@ -1,4 +1,4 @@
-// The line behind a call, from what the call left.
+// The reply to a call, from what the call left.
 use engine::calls::Call;
 use journal_answers::Told;
 use market::answer::Outcome;
@@ -95,7 +95,7 @@ fn within_slots(count: usize) -> usize
     count
 }
 
-// What the first so many paths offer.
+// What the first `number` paths offer.
 fn offers_of(paths: [Path; Engine::PATHS], number: usize) -> Offers
     ensures count { λ r. ⌜ r .count ≡ length (take number paths) ⌝ }
     ensures few { λ r. ⌜ r .count ≤ pathLimit ⌝ }
@@ -111,7 +111,7 @@ fn offers_of(paths: [Path; Engine::PATHS], number: usize) -> Offers
     Offers { count, slots }
 }
 
-// The line behind a call, at the front of the buffer.
+// The reply to a call, at the front of the buffer.
 pub fn put_answer(
     out: &mut [u8],
     tell: Tell,

@@ -25,7 +25,7 @@ ghost use Rattle.replay.specs.Replay as rules;
 // How many bytes a line may have before its byte 10.
 pub const LINE_BYTES: usize = 65_536;
 
-// Room for the words of a line, and for the line behind it.
+// Room for the words of a line, and for the reply to it.
 pub const WORD_ROOM: usize = 32_768;
 
 pub const REPLY_ROOM: usize = 65_536;
@@ -98,7 +98,7 @@ fn call_lent(
     )
 }
 
-// A call with a list for the answers of bids and a scratch, and the line behind it at the front of the buffer.
+// A call with a list for the answers of bids and a scratch, and the reply to it at the front of the buffer.
 fn answer_lent(
     book: Book,
     register: &mut [u32],
@@ -141,7 +141,8 @@ fn answer_lent(
     }
 }
 
-// A call, and the line behind it at the front of the buffer. Only a round has a list for bids and a scratch, which take time to clear.
+// A call, and the reply to it at the front of the buffer. Only a round has a list for the answers of bids and a scratch, since it
+// takes time to fill these with zeros.
 fn answer_call(
     book: Book,
     register: &mut [u32],
@@ -184,7 +185,7 @@ fn answer_call(
     )
 }
 
-// The line behind a line that has not the form, or a call before there is a book; nothing is changed.
+// The reply to a malformed line, or to a call before there is a book; nothing is changed.
 fn turn_away(journal: Journal, out: &mut [u8]) -> Replied
     requires { ⌜ replyRoom ≤ length (now out) ⌝ }
     ensures journal { λ r. ⌜ r .journal ≡ journal ⌝ }
@@ -205,7 +206,7 @@ fn turn_away(journal: Journal, out: &mut [u8]) -> Replied
     Replied { journal, used }
 }
 
-// The line of a fresh book, from what stands behind its word.
+// The line of a fresh book, from the text after its first word.
 fn answer_fresh(journal: Journal, text: &[u8], out: &mut [u8]) -> Replied
     requires { ⌜ replyRoom ≤ length (now out) ⌝ }
     ensures journal { λ r. ⌜ r .journal ≡ rules.freshStep journal [] (freshSaid (now (text .entry))) .journal ⌝ }
@@ -232,7 +233,7 @@ fn answer_fresh(journal: Journal, text: &[u8], out: &mut [u8]) -> Replied
     }
 }
 
-// A call with so many words and prices in its lists, where there is a book.
+// A call with `count` words and `priced` prices in its lists; it is turned away where there is no book.
 fn answer_ready(
     journal: Journal,
     register: &mut [u32],
@@ -293,7 +294,7 @@ fn answer_said(
     }
 }
 
-// One line of a journal, without its byte 10: the state after it, and what is printed behind it, at the front of the buffer. `words` and
+// One line of a journal, without its byte 10: the state after it, and the reply to it at the front of the buffer. `words` and
 // `prices` are room for the line's own lists.
 pub fn answer_line(
     journal: Journal,

@@ -1,11 +1,11 @@
-// What the programs of this repository print with: fields on standard output, each after the last, lines ended by byte 10.
+// What the programs of this repository print with: fields on standard output, one after another, and lines that end with byte 10.
 use libc::STDOUT_FILENO;
 use market::answer::Outcome;
 use market::book::Bidder;
 use market::units::Balance;
 use market::units::Cents;
 
-// Text as it stands.
+// Text as it is.
 pub fn text(bytes: &[u8]) {
     io::write_all(STDOUT_FILENO, bytes);
 }

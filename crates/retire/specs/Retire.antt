@@ -20,7 +20,7 @@ use Rattle.register.specs.declared.Removal.the-variants.{EndedBefore}
 abbrev pub retireRefusals : Day → List Row
 retireRefusals day = (not (leb (day .0) dayLimit) gives 21) ∷ []
 
--- 1 and 2 come before
+-- refusals 1 and 2 come first
 abbrev pub retireTable : Book → List ℕ → Day → List Row
 retireTable b words day = registerRefusals b words ++ retireRefusals day
 
@@ -32,6 +32,6 @@ unfoldable pub retire : Book → List ℕ → Day → Outcome
 retire b words day =
     decided b (firstOf (retireTable b words day)) (answered (withEntries b (length (entriesLeft b words day))))
 
--- the register's words after it
+-- the register's words after the call
 unfoldable pub retireWords : Book → List ℕ → Day → List ℕ
 retireWords b words day = decidedList words (firstOf (retireTable b words day)) (written words (entriesLeft b words day))

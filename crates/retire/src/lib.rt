@@ -1,4 +1,4 @@
-// Retire: entries that have run out leave the register.
+// Retire: removes from the register the issued entries that have ended.
 use market::answer::Answer;
 use market::answer::Outcome;
 use market::answer::Refusal;
@@ -24,7 +24,7 @@ fn refusal(book: Book, words: &[u32], day: Day) -> u32
     Refusal::NONE
 }
 
-// Issued entries whose last day is before the day are removed.
+// Removes the issued entries whose last day is before `day`.
 pub fn retire(book: Book, words: &mut [u32], day: Day) -> Outcome
     ensures outcome { λ r. ⌜ r ≡ rules.retire book (now (words .entry)) day ⌝ }
     ensures words { λ r. ⌜ now (words .exit) ≡ rules.retireWords book (now (words .entry)) day ⌝ }

@@ -20,7 +20,7 @@ use Rattle.register.specs.Words.{written}
 use Rattle.round.specs.Round.{offeredNow, marksNow, wonNow, soldNow, pricesNow, entriesNow, roomRefusals, earlyRefusals, roundTable, bookAfter, round, roundWords, roundBidAnswers, roundPathAnswers, scratchAfter}
 use Rattle.round.proofs.Cleared.{early-numbered}
 
--- the scratch as it was is what a refusal leaves, and any words of its length are what an answer may leave
+-- a refusal leaves the scratch as it was, and an answer may leave any words of the same length
 scratch-kept : (n : ℕ) (l : List ℕ) → scratchAfter n l l
 scratch-kept zero l = refl
 scratch-kept (suc n) l = refl
@@ -61,7 +61,7 @@ module _ (b : Book) (words bidWords answers results scratch : List ℕ) where
         second-decides (earlyRefusals b words bidWords answers results scratch) (roomRefusals b (bidsOf bidWords))
         (early-numbered b words bidWords answers results scratch) none
 
-    -- refused since the winners do not fit
+    -- refused because the winners do not fit
     pub full : leb (b .entries + length (entriesNow b (bidsOf bidWords))) entryLimit ≡ false → Leaves (refused b 23) words answers results scratch
     full over =
         stays 23 (sym (decides ∙ ap (λ (t : Bool). cond (not t) 23 0) over))

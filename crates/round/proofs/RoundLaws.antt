@@ -25,7 +25,7 @@ use Rattle.awarding.specs.Tables.{winnersIn}
 use Rattle.clearing.specs.Clearing.{chargeAt, bidRowsFrom, ifWon, entryOf, entriesFrom, newEntries}
 use Rattle.round.specs.Padded.{padded}
 
--- a padded list reads as the list
+-- a padded list has the same number at every place as the list, and 0 past it
 more-at : (l : List ℕ) (n k : ℕ) → getD (l ++ replicate n 0) k 0 ≡ getD l k 0
 more-at [] n k = zeros-at n k
 more-at (x ∷ l) n zero = refl
@@ -40,7 +40,7 @@ padded-length l count is few =
     let blank = length-replicate (bidLimit - count) (let zero : ℕ = 0 in zero) in
     omega (arith, sum, blank, is, few)
 
--- lists that read alike mark alike
+-- two lists of marks with the same number at every place give the same lots, awards and rows
 module _ (ms ns : List ℕ) (same : (k : ℕ) → getD ms k 0 ≡ getD ns k 0) where
   lots-same : (bid at : ℕ) (bids : List Bid) → lotsFrom bid at bids ms ≡ lotsFrom bid at bids ns
   lots-same bid at [] = refl
@@ -57,7 +57,7 @@ module _ (ms ns : List ℕ) (same : (k : ℕ) → getD ms k 0 ≡ getD ns k 0) w
   rows-same won prices bid (b ∷ bs) =
       ap₂ (λ (mark : ℕ) (rest : List ℕ). (mark ∷ bidValue b ∷ getD won bid 0 ∷ chargeAt won prices bid b ∷ []) ++ rest) (same bid) (rows-same won prices (bid + 1) bs)
 
--- as many bids win as entries are new
+-- as many bids win as there are new entries
 entries-are : (period : Period) (won : List ℕ) (bid : ℕ) (bids : List Bid) → winnersIn won (bid + length bids) ≡ winnersIn won bid + length (entriesFrom period won bid bids)
 entries-are period won bid [] = let e = ap (winnersIn won) (let same : bid + 0 ≡ bid = omega arith in same) in omega (arith, e)
 entries-are period won bid (b ∷ bs) =
@@ -76,7 +76,7 @@ winners-are period won bids =
     let e = ap (winnersIn won) (let same : 0 + length bids ≡ length bids = omega arith in same) in
     omega (arith, e, entries-are period won 0 bids)
 
--- in a sound book no path has sold more than a quantity of MW
+-- in a sound book no path has sold more than 9,999 MW, the limit of a quantity
 path-sold : (round : ℕ) (x : Path) → soundPath round x ≡ true → soldWithin x ≡ true
 path-sold round x h =
     le-leb (x .sold .0) quantityLimit (omega (arith, path-bounds round x h .sold, path-bounds round x h .offer))
@@ -90,7 +90,7 @@ paths-sold round (x ∷ l) h =
 pub sold-sound : (b : Book) → soundBook b ≡ true → every soldWithin (pathsOf b) ≡ true
 sold-sound b h = paths-sold (roundOf (b .stage)) (pathsOf b) (sound-parts b h .paths)
 
--- a book made of parts that are equal
+-- books made of equal parts are equal
 abbrev pub made : Book → List Path → List Bidder → ℕ → Stage → Book
 made b slots bidders entries stage =
     record {

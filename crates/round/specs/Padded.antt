@@ -1,4 +1,4 @@
--- A list with a number for each bid that a list of bids can have: those of the bids, and 0 past them.
+-- A list with a number for each bid that a bid list can have: the numbers of its bids, and 0 past them.
 use mathlib.Core.List.{List, _++_}
 use Prim.Native.Nat.{ℕ, _-_}
 use lib.ListN.{replicate}

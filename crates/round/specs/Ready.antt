@@ -1,4 +1,4 @@
--- What a round may count on where nothing is refused before its awards are known.
+-- What a round may rely on where nothing is refused before its awards are known.
 use mathlib.Core.Path.{_≡_}
 use mathlib.Core.Bool.{false}
 use mathlib.Core.List.{List}
@@ -22,7 +22,7 @@ pub record AllLent (b : Book) (words answers results scratch : List ℕ) : Type 
   pub scratch-long : scratchWords ≤ length scratch
   pub register : Lent b words
 
--- and the auction is open, and the list has nothing to refuse
+-- in addition the auction is open, and nothing in the bid list is refused
 pub record Early (b : Book) (words bidWords answers results scratch : List ℕ) : Type 0 where
   pub lent : AllLent b words answers results scratch
   pub is-open : isIdle (b .stage) ≡ false

@@ -85,7 +85,7 @@ roundTable b words bidWords bidAnswers pathAnswers scratch =
 -- ---- The round
 
 -- "for each of the 32 bidders: its charges are added to owed ..": the book after a round with these MW won, MW sold and clearing
--- prices, and so many entries
+-- prices, and `entries` entries
 abbrev pub bookWith : Book → List ℕ → List ℕ → List ℕ → List Bid → ℕ → Book
 bookWith b won sold prices bids entries =
     record {
@@ -127,7 +127,7 @@ roundPathAnswers b words bidWords bidAnswers pathAnswers scratch =
     (laid pathAnswers
     (pathRows (offeredNow b) (soldNow b (bidsOf bidWords)) (pricesNow b (bidsOf bidWords)) (b .«path_count»)))
 
--- "the scratch, which may hold any words after an answered round": as it was after a refusal, and else of the same length
+-- "the scratch, which may hold any words after an answered round": as it was after a refusal, and otherwise of the same length
 abbrev pub scratchAfter : ℕ → List ℕ → List ℕ → Type 0
 scratchAfter zero before after = length after ≡ length before
 scratchAfter (suc n) before after = after ≡ before

@@ -11,7 +11,7 @@ ghost use Rattle.bids.specs.Faults.{listRefusals};
 ghost use Rattle.register.specs.Refusals.{registerRefusals};
 ghost use Rattle.round.specs.Round.{lentRefusals, deskRefusals, earlyRefusals};
 
-// The refusals of the lent lists, and 1 and 2 of the register; 0 where there is none.
+// The first refusal of the lent lists, or of the register (1 or 2); 0 where there is none.
 fn lent_refusal(book: Book, words: &[u32], answers: &[u64], results: &[u64], scratch: &[u32]) -> u32
     ensures { λ r. ⌜ r ≡ firstOf (lentRefusals (now (answers .entry)) (now (results .entry)) (now (scratch .entry)) ++ registerRefusals book (now (words .entry))) ⌝ }
 {
@@ -27,7 +27,7 @@ fn lent_refusal(book: Book, words: &[u32], answers: &[u64], results: &[u64], scr
     register_soundness::refusal(book, words)
 }
 
-// The refusals of the stage and of the bid list, 20, 22, and the first faulty bid's; 0 where there is none.
+// The first refusal of the stage (20), of the length of the bid list (22) or of its first faulty bid; 0 where there is none.
 fn list_refusal(book: Book, bids: &[u32]) -> u32
     requires { ⌜ book .«path_count» ≤ pathLimit ⌝ }
     ensures { λ r. ⌜ r ≡ firstOf (deskRefusals book (now (bids .entry)) ++ listRefusals (book .«path_count») (now (bids .entry))) ⌝ }

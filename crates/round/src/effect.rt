@@ -18,7 +18,7 @@ ghost use Rattle.closing.specs.Closing.{pathRows};
 ghost use Rattle.register.specs.Words.{entriesOf, written};
 ghost use Rattle.round.specs.Round.{bookWith};
 
-// The book after a round with these MW won, sold and clearing prices, and so many entries.
+// The book after a round with these MW won, MW sold and clearing prices, and `entries` entries.
 pub fn book_with(book: Book, bids: &[u32], awarded: Awarded, entries: usize) -> Book
     requires { ⌜ soundBook book ≡ true ⌝ }
     requires { ⌜ length (now bids) ≤ bidListWords ⌝ }
@@ -80,7 +80,7 @@ pub fn write_answers(
     closing::write_paths(offered, sold, prices, book.path_count, results);
 }
 
-// The entries of the winners are added to the register. Returns the count.
+// Adds the entries of the winners to the register. Returns the new count.
 pub fn add_winners(book: Book, bids: &[u32], awarded: Awarded, words: &mut [u32]) -> usize
     requires { ⌜ length (now bids) ≤ bidListWords ⌝ }
     requires { ⌜ soundList pathLimit (now bids) ≡ true ⌝ }

@@ -50,9 +50,9 @@ fn answered(
     effect::book_with(book, bids, awarded, count)
 }
 
-// A round of the open auction. `words` is the register, `bids` the list of bids, `answers` and `results` the lists for the answers
-// of bids and paths, and `scratch` what the order is found in. Nothing that is lent is touched before it is known that nothing
-// is refused; after an answered round the scratch may hold any words.
+// A round of the open auction. `words` is the register, `bids` the list of bids, `answers` and `results` the lists for the
+// answers of bids and paths, and `scratch` where the laminations are put in order. Nothing that is lent is touched before it
+// is known that nothing is refused; after an answered round the scratch may hold any words.
 pub fn round(
     book: Book,
     words: &mut [u32],

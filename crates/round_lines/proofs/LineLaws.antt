@@ -45,7 +45,7 @@ award-lost answers bid b lost =
 
 -- ---- Lines one after another
 
--- the lines of so many paths from one on
+-- the lines of the paths from `path` on, as many as the last argument says
 abbrev pub pathsFrom : List ℕ → ℕ → ℕ → List ℕ
 pathsFrom results path zero = []
 pathsFrom results path (suc n) = pathLine results path ++ pathsFrom results (path + 1) n

@@ -39,7 +39,7 @@ pub lines-done : {lines : ℕ → List Bid → List ℕ} {words before : List �
 lines-done {lines} {words} {before} {at} {k} {place} s none past =
     written-done (s .to) (ap (lines k) (walk-done pathLimit words k place (s .walk) past) ∙ none)
 
--- a bid's own lines, and those of the bids behind it
+-- a bid's own lines, and those of the bids after it
 module _ (part : ℕ → Bid → List ℕ) (lines : ℕ → List Bid → List ℕ) (more : (k : ℕ) (b : Bid) (bs : List Bid) → lines k (b ∷ bs) ≡ part k b ++ lines (k + 1) bs) {words before : List ℕ} {at k place end : ℕ} {out : List ℕ} (s : LinesTo lines words before at k place end out) (inside : place < length words) where
   after : Walk pathLimit words (k + 1) (bidEnd words place)
   after = walk-on pathLimit words k place (s .walk) inside
@@ -50,11 +50,11 @@ module _ (part : ℕ → Bid → List ℕ) (lines : ℕ → List Bid → List �
       ap (lines k) (left-splits pathLimit words k place (s .walk) inside)
       ∙ more k (bidAt words place) (left (walk-on pathLimit words k place (s .walk) inside))
 
-  -- the lines of the bid here have room
+  -- there is room for the lines of the bid here
   pub lines-fit : end + length (part k (bidAt words place)) ≤ length out
   lines-fit = written-fits (s .to) (part k (bidAt words place)) (lines (k + 1) (left after)) splits
 
-  -- and are written
+  -- and they are written
   pub lines-on : {r : ℕ} {next : List ℕ} {to : ℕ} → r ≡ end + length (part k (bidAt words place)) → next ≡ putAt out end (part k (bidAt words place)) → to ≡ bidEnd words place → LinesTo lines words before at (k + 1) to r next
   lines-on {r} {next} {to} is put place-is =
       subst (λ (p : ℕ). LinesTo lines words before at (k + 1) p r next) (sym place-is)
@@ -63,13 +63,13 @@ module _ (part : ℕ → Bid → List ℕ) (lines : ℕ → List Bid → List �
         to = written-on (s .to) (part k (bidAt words place)) (lines (k + 1) (left after)) splits is put;
       })
 
--- `count` of the first `k` bids won
+-- `count` is how many of the first `k` bids won
 pub record WinnersTo (words answers : List ℕ) (count k place : ℕ) : Type 0 where
   pub walk : Walk pathLimit words k place
   pub few : count ≤ k
   pub sum : winners answers 0 (bidsOf words) ≡ count + winners answers k (left walk)
 
--- 1 for a bid that won
+-- 1 for a bid that won, and 0 for one that did not
 abbrev pub oneIf : List ℕ → ℕ → ℕ
 oneIf answers k = cond (ltb 0 (wonIn answers k)) 1 0
 

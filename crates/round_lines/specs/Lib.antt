@@ -1,3 +1,3 @@
--- A round of the award sheet.
+-- A round on the award sheet.
 pub mod RoundLines
 pub mod Phrases

@@ -1,5 +1,5 @@
--- Document 01, "The whole output", "Per round: place, bidder, path, admitted or over, bid value; path, offered, sold, price or "-"; in bid order
--- bidder, path, MW, charge."
+-- Document 01, "The whole output", "Per round: place, bidder, path, admitted or over, bid value; path, offered, sold, price or
+-- "-"; in bid order bidder, path, MW, charge."
 use mathlib.Core.Bool.{cond}
 use mathlib.Core.List.{List, [], _∷_, _++_}
 use Prim.Native.Nat.{ℕ, zero, suc, _+_}
@@ -34,7 +34,7 @@ abbrev pub bidLines : List ℕ → ℕ → List Bid → List ℕ
 bidLines answers bid [] = []
 bidLines answers bid (b ∷ bs) = bidLine answers bid b ++ bidLines answers (bid + 1) bs
 
--- "0 60 60 15000", with "-" where there is no price
+-- "0 60 60 15000", with "-" if there is no price
 abbrev pub priceField : ℕ → List ℕ
 priceField price = cond (eqb price 0) words.noPrice (decimal price)
 
@@ -43,7 +43,7 @@ pathLine results path =
     line
     (decimal path ∷ decimal (offeredIn results path) ∷ decimal (soldIn results path) ∷ priceField (priceIn results path) ∷ [])
 
--- the first so many paths
+-- the lines of the first paths, as many as the second argument says
 abbrev pub pathLines : List ℕ → ℕ → List ℕ
 pathLines results zero = []
 pathLines results (suc n) = pathLines results n ++ pathLine results n
@@ -70,7 +70,7 @@ pub record RoundMade : Type 0 where
   pub answers : List ℕ
   pub results : List ℕ
 
--- its bids, its paths and its awards, each after their count
+-- its bids, its paths and its awards, each of them after a line with their count
 abbrev pub bidsPart : List ℕ → List Bid → List ℕ
 bidsPart answers bids = countLine (partWord Bids) (length bids) ++ bidLines answers 0 bids
 

@@ -10,7 +10,7 @@ ghost use Rattle.bids.proofs.Walk.{soundList};
 ghost use Rattle.bids.specs.Bids.{bidAt, bidsOf};
 ghost use Rattle.round_lines.specs.RoundLines.{awardLine, awardPart, awardLines};
 
-// The line of a bid that won, whose words stand at a place: bidder, path, MW, charge.
+// Writes the line of a bid that won, whose words are at `place`: bidder, path, MW, charge.
 fn put_award_line(
     out: &mut [u8],
     at: usize,
@@ -34,7 +34,7 @@ fn put_award_line(
     writing::put_numbers(out, at, &row, fields::NEWLINE)
 }
 
-// The line of a bid where it won, and nothing where it did not.
+// Writes the line of a bid if it won, and nothing if it did not.
 fn put_award(
     out: &mut [u8],
     at: usize,
@@ -56,7 +56,7 @@ fn put_award(
     at
 }
 
-// The lines of all bids that won, in the bids' order.
+// Writes the lines of all bids that won, in the order of the bids.
 pub fn put_award_lines(out: &mut [u8], at: usize, words: &[u32], answers: &[u64]) -> usize
     requires { ⌜ length (now words) ≤ bidListWords ⌝ }
     requires { ⌜ soundList pathLimit (now words) ≡ true ⌝ }

@@ -15,7 +15,7 @@ ghost use Rattle.bids.specs.Bids.{bidAt, bidsOf};
 ghost use Rattle.round.specs.Answers.{markIn, valueIn};
 ghost use Rattle.round_lines.specs.RoundLines.{markWord, bidLine, bidLines};
 
-// A bid's mark, and the space behind it.
+// Writes a bid's mark, and the space after it.
 fn put_mark(out: &mut [u8], at: usize, mark: u64) -> usize
     requires { ⌜ at + length (markWord mark ++ (space ∷ [])) ≤ length (now out) ⌝ }
     ensures place { λ r. ⌜ r ≡ at + length (markWord mark ++ (space ∷ [])) ⌝ }
@@ -27,7 +27,7 @@ fn put_mark(out: &mut [u8], at: usize, mark: u64) -> usize
     writing::put_word(out, at, b"over", fields::SPACE)
 }
 
-// A bid's mark and value, which end its line.
+// Writes a bid's mark and value, which end its line.
 fn put_bid_answer(out: &mut [u8], at: usize, answers: &[u64], bid: usize) -> usize
     requires { ⌜ (bid + 1) * bidAnswerSize ≤ length (now answers) ⌝ }
     requires { ⌜ at + length (line (markWord (markIn (now answers) bid) ∷ decimal (valueIn (now answers) bid) ∷ [])) ≤ length (now out) ⌝ }
@@ -39,7 +39,7 @@ fn put_bid_answer(out: &mut [u8], at: usize, answers: &[u64], bid: usize) -> usi
     writing::put_field(out, marked, answers[row + 1], fields::NEWLINE)
 }
 
-// A bid's place among the bids, its bidder and its path.
+// Writes a bid's place among the bids, its bidder and its path.
 fn put_bid_named(out: &mut [u8], at: usize, words: &[u32], place: usize, bid: usize) -> usize
     requires { ⌜ place + headerWords ≤ length (now words) ⌝ }
     requires { ⌜ bid < bidLimit ⌝ }
@@ -52,7 +52,7 @@ fn put_bid_named(out: &mut [u8], at: usize, words: &[u32], place: usize, bid: us
     writing::put_numbers(out, at, &row, fields::SPACE)
 }
 
-// The line of a bid, whose words stand at a place.
+// Writes the line of a bid, whose words are at `place`.
 fn put_bid_line(
     out: &mut [u8],
     at: usize,
@@ -72,7 +72,7 @@ fn put_bid_line(
     put_bid_answer(out, named, answers, bid)
 }
 
-// The lines of all bids, in their order.
+// Writes the lines of all bids, in their order.
 pub fn put_bid_lines(out: &mut [u8], at: usize, words: &[u32], answers: &[u64]) -> usize
     requires { ⌜ length (now words) ≤ bidListWords ⌝ }
     requires { ⌜ soundList pathLimit (now words) ≡ true ⌝ }

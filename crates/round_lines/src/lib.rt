@@ -1,4 +1,4 @@
-// A round as it was answered: its bids, its paths and its awards, each after their count.
+// A round as it was answered: its bids, its paths and its awards, each of them after a line with their count.
 mod award_lines;
 mod bid_lines;
 mod path_lines;
@@ -15,7 +15,7 @@ ghost use Rattle.bids.proofs.Walk.{soundList};
 ghost use Rattle.bids.specs.Bids.{bidsOf};
 ghost use Rattle.round_lines.specs.RoundLines.{bidsPart, pathsPart, awardsPart, roundText};
 
-// How many bids there are, and their lines.
+// Writes how many bids there are, and their lines.
 fn put_bids_part(out: &mut [u8], at: usize, words: &[u32], answers: &[u64]) -> usize
     requires { ⌜ length (now words) ≤ bidListWords ⌝ }
     requires { ⌜ soundList pathLimit (now words) ≡ true ⌝ }
@@ -29,7 +29,7 @@ fn put_bids_part(out: &mut [u8], at: usize, words: &[u32], answers: &[u64]) -> u
     bid_lines::put_bid_lines(out, next, words, answers)
 }
 
-// How many paths there are, and their lines.
+// Writes how many paths there are, and their lines.
 fn put_paths_part(out: &mut [u8], at: usize, results: &[u64], paths: usize) -> usize
     requires { ⌜ paths ≤ pathLimit ⌝ }
     requires { ⌜ pathAnswerWords ≤ length (now results) ⌝ }
@@ -41,7 +41,7 @@ fn put_paths_part(out: &mut [u8], at: usize, results: &[u64], paths: usize) -> u
     path_lines::put_path_lines(out, next, results, paths)
 }
 
-// How many bids won, and their lines.
+// Writes how many bids won, and their lines.
 fn put_awards_part(out: &mut [u8], at: usize, words: &[u32], answers: &[u64]) -> usize
     requires { ⌜ length (now words) ≤ bidListWords ⌝ }
     requires { ⌜ soundList pathLimit (now words) ≡ true ⌝ }
@@ -55,7 +55,7 @@ fn put_awards_part(out: &mut [u8], at: usize, words: &[u32], answers: &[u64]) ->
     award_lines::put_award_lines(out, next, words, answers)
 }
 
-// A round of these bids, with its answers for bids and for paths.
+// Writes a round of these bids, with its answers for bids and for paths.
 pub fn put_round(
     out: &mut [u8],
     at: usize,

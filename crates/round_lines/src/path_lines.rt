@@ -9,7 +9,7 @@ ghost use Rattle.text.specs.Put.{putAt};
 ghost use Rattle.fields.specs.Fields.{newline};
 ghost use Rattle.round_lines.specs.RoundLines.{priceField, pathLine, pathLines};
 
-// A price, or "-" where there is none, at the end of its line.
+// Writes a price, or "-" if there is none, at the end of its line.
 fn put_price(out: &mut [u8], at: usize, price: u64) -> usize
     requires { ⌜ at + length (priceField price ++ (newline ∷ [])) ≤ length (now out) ⌝ }
     ensures place { λ r. ⌜ r ≡ at + length (priceField price ++ (newline ∷ [])) ⌝ }
@@ -21,7 +21,7 @@ fn put_price(out: &mut [u8], at: usize, price: u64) -> usize
     writing::put_field(out, at, price, fields::NEWLINE)
 }
 
-// The line of a path: its number, offered, sold, price.
+// Writes the line of a path: its number, offered, sold, price.
 fn put_path_line(out: &mut [u8], at: usize, results: &[u64], path: usize) -> usize
     requires { ⌜ path < pathLimit ⌝ }
     requires { ⌜ pathAnswerWords ≤ length (now results) ⌝ }
@@ -37,7 +37,7 @@ fn put_path_line(out: &mut [u8], at: usize, results: &[u64], path: usize) -> usi
     put_price(out, next, results[first + 2])
 }
 
-// The lines of the first so many paths.
+// Writes the lines of the first `paths` paths.
 pub fn put_path_lines(out: &mut [u8], at: usize, results: &[u64], paths: usize) -> usize
     requires { ⌜ paths ≤ pathLimit ⌝ }
     requires { ⌜ pathAnswerWords ≤ length (now results) ⌝ }

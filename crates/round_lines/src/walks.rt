@@ -1,4 +1,4 @@
-// What a round's bids count up to.
+// How many bids a round has, and how many of them won.
 use market::engine::Engine;
 ghost use mathlib.Core.Path.{_≡_};
 ghost use mathlib.Core.Bool.{true, cond};
@@ -26,7 +26,7 @@ pub fn bid_count(words: &[u32]) -> usize
     k
 }
 
-// 1 for a bid that won, and 0 for another.
+// 1 for a bid that won, and 0 for one that did not.
 fn won_one(answers: &[u64], bid: usize) -> usize
     requires { ⌜ (bid + 1) * bidAnswerSize ≤ length (now answers) ⌝ }
     ensures { λ r. ⌜ r ≡ cond (ltb 0 (wonIn (now (answers .entry)) bid)) 1 0 ⌝ }

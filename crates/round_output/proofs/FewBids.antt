@@ -1,4 +1,4 @@
--- "One bid per bidder and path": so a round takes at most as many bids as there are bidders and paths.
+-- "One bid per bidder and path": so a round takes at most as many bids as there are pairs of a bidder and a path.
 use mathlib.Core.Path.{_≡_, refl, sym, _∙_, ap, ap₂}
 use mathlib.Core.Bool.{Bool, true, false, cond, not, _&&_, _||_, false≢true}
 use mathlib.Core.List.{List, [], _∷_}
@@ -14,7 +14,7 @@ use Rattle.bids.specs.Bids.{Bid, headerOf}
 use Rattle.bids.specs.Encoding.{rightAfter, rightBids}
 use Rattle.bids.specs.Faults.{soundLaminations, abovePrices, soundHeader, soundBid, hasBid, stampOf}
 
--- ---- Different numbers below a bound are few
+-- ---- There are few different numbers below a bound
 
 abbrev has : ℕ → List ℕ → Bool
 has n [] = false
@@ -28,7 +28,7 @@ abbrev Below : ℕ → List ℕ → Type 0
 Below n [] = Unit {0}
 Below n (k ∷ l) = (k < n) × Below n l
 
--- the list without the one place that has a number
+-- the list without the first place that holds the number
 abbrev without : ℕ → List ℕ → List ℕ
 without n [] = []
 without n (k ∷ l) = cond (eqb k n) l (k ∷ without n l)
@@ -59,7 +59,7 @@ without-different n (k ∷ l) h = go (eqb k n) (without-has n k l (h .0)) (witho
     go true first rest = h .1
     go false first rest = (first, rest)
 
--- below the next number, and not that number itself
+-- numbers below `suc n` that are not `n` are below `n`
 below-other : (n : ℕ) (l : List ℕ) → Below (suc n) l → has n l ≡ false → Below n l
 below-other n [] b h = tt
 below-other n (k ∷ l) b h =
@@ -122,7 +122,7 @@ keys-below [] all = tt
 keys-below (b ∷ bs) all =
     (let less : keyOf b < bidderLimit * pathLimit = omega (arith, all .0 .0, all .0 .1) in less, keys-below bs (all .1))
 
--- a sound bid's bidder and path
+-- the bidder and the path of a sound bid
 pub sound-placed : (paths : ℕ) (b : Bid) → paths ≤ pathLimit → soundBid paths b ≡ true → Placed b
 sound-placed paths b few sound =
     let head = soundHeader paths (headerOf b) in
@@ -159,6 +159,6 @@ after-few paths earlier (b ∷ bids) few all different right =
     let new = key-new b earlier here all (not-true (hasBid (b .bidder) (b .path) earlier) (right-true sound first two)) in
     omega (arith, after-few paths (b ∷ earlier) bids few (here, all) (new, different) (right-true (sound && first && rises) rest right))
 
--- a round's bids are at most 512
+-- a round has at most 512 bids
 pub bids-at-most : (paths : ℕ) (bids : List Bid) → paths ≤ pathLimit → rightBids paths bids ≡ true → length bids ≤ bidderLimit * pathLimit
 bids-at-most paths bids few right = omega (arith, after-few paths [] bids few tt tt right)

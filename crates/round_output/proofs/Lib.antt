@@ -1,4 +1,4 @@
--- How many bids a round can have, how much it writes, and what comes of one round and of two.
+-- How many bids a round can have, how large the numbers are that it writes, and the output of one round and of two.
 pub mod FewBids
 pub mod RoundDone
 pub mod RoundLength

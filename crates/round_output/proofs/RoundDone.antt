@@ -1,4 +1,4 @@
--- A round that a sheet makes, once it is answered: what may be written of it, and the state after it.
+-- A round of a sheet that was answered: what the award sheet requires of its lists, and the state after it.
 use mathlib.Core.Path.{_≡_, refl, sym, _∙_, ap, subst}
 use mathlib.Core.Bool.{true}
 use mathlib.Core.List.{List, [], _∷_}
@@ -28,7 +28,7 @@ use Rattle.round_output.specs.Rounds.{Progress, answersLent, resultsLent
 use Rattle.award_rounds.proofs.AwardLength.{RoundSizes, award-fits}
 use Rattle.round_output.proofs.RoundLength.{round-sizes}
 
--- rows laid over a list leave it as long
+-- rows written over a list do not make it shorter
 laid-long : (before rows : List ℕ) → length before ≤ length (laid before rows)
 laid-long before rows =
     omega (arith, length-append rows (drop (length rows) before), length-drop (length rows) before)
@@ -49,7 +49,7 @@ module _ (b : Book) (words bids : List ℕ) where
   abbrev pub madeBy : RoundMade
   madeBy = made bids bidAnswers pathAnswers
 
-  -- what the round is lent, of all that a call may be
+  -- what the round is lent, among all that a call can be lent
   abbrev lentFor : Lent
   lentFor = lent [] bids [] [] [] [] [] [] answersLent resultsLent scratchLent
 
@@ -113,7 +113,7 @@ module _ (b : Book) (bids listed : List ℕ) where
   unfolding roundOf
   one-answered none = one-output ∙ written-answered (answerNumber (answerOf b emptyRegister bids .answer)) listed (roundOf b emptyRegister [] bids) none
 
--- a short auction's round, with the lists as they were filled: what its award sheet asks, and that it is the output
+-- the round of a short auction, with the lists as they were filled: what its award sheet requires, and that it is the output
 pub record OneDone (b : Book) (bids listed answers results : List ℕ) (after : Book) : Type 0 where
   pub lists : Answered bids answers results
   pub paths : after .«path_count» ≤ pathLimit

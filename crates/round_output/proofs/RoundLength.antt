@@ -33,7 +33,7 @@ use Rattle.promise.proofs.RowReads.{value-read, won-read, charge-read, offered-
 use Rattle.award_rounds.proofs.AwardLength.{BidSizes, PathSizes, RoundSizes}
 use Rattle.round_output.proofs.FewBids.{sound-placed, all-sound, bids-at-most}
 
--- a bid's value is at most that of 20 laminations
+-- a bid's value is at most the largest value of a lamination, times the number of its laminations
 pairs-value : (before : ℕ) (ls : List Lamination) → soundLaminations before ls ≡ true → laminationsValue ls ≤ length ls * laminationValueLimit
 pairs-value before [] sound = omega arith
 pairs-value before (l ∷ ls) sound =
@@ -66,7 +66,7 @@ module _ (b : Book) (words : List ℕ) (l : Lent) (sound : soundBook b ≡ true)
   good : rightBids (b .«path_count») bids ≡ true
   good = opened b words l none .right
 
-  -- a number of a list that a test holds of
+  -- each number of a list of sound quantities is at most the limit
   quantity : (t : List ℕ) (i : ℕ) → every soundQuantity t ≡ true → getD t i 0 ≤ quantityLimit
   quantity t i all = leb-true (getD t i 0) quantityLimit (every-at-any soundQuantity t i 0 all refl)
 

@@ -1,4 +1,4 @@
--- The output of a long auction: its second round follows on the first.
+-- The output of a long auction: its second round follows the first.
 use mathlib.Core.Path.{_≡_, refl, sym, _∙_, ap, ap₂, subst}
 use mathlib.Core.Bool.{true}
 use mathlib.Core.List.{List, [], _∷_}
@@ -68,7 +68,7 @@ module _ (b : Book) (first second listed : List ℕ) where
   both-answered none fine =
       two-output ∙ ap (ended listed) (goes-on firstNumber one two none) ∙ written-answered (answerNumber (later .answer)) listed two fine
 
--- a long auction's rounds, with the lists as they were filled: what their award sheet asks, and that it is the output
+-- the rounds of a long auction, with the lists as they were filled: what their award sheet requires, and that it is the output
 pub record TwoDone (b : Book) (first second listed answers results laterAnswers laterResults : List ℕ) (after : Book) : Type 0 where
   pub lists : Answered first answers results
   pub later-lists : Answered second laterAnswers laterResults
@@ -109,7 +109,7 @@ module _ (b : Book) (first second listed : List ℕ) (state : State b emptyRegis
           output = both-answered b first second listed none fine;
         }
 
-  -- the same of the outcomes and lists that the rounds gave
+  -- the same for the outcomes and the lists that the rounds gave
   module _ (o : Outcome) (words : List ℕ) (is : o ≡ answerOf b emptyRegister first) (kept : words ≡ wordsAfter b emptyRegister first) where
     pub second-is : (p : Outcome) → p ≡ answerOf (o .book) words second → p ≡ later b first second listed
     second-is p e = e ∙ ap₂ (λ (x : Book) (w : List ℕ). answerOf x w second) (ap (λ (x : Outcome). x .book) is) kept

@@ -1,2 +1,2 @@
--- The rounds of a sheet, and the output behind them.
+-- The rounds of a sheet, and the output after them.
 pub mod Rounds

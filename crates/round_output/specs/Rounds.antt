@@ -12,13 +12,13 @@ use Rattle.round_lines.specs.RoundLines.{RoundMade}
 use Rattle.award_sheet.specs.AwardSheet.{awardText, refusedText}
 use Rattle.award_rounds.specs.Rounds.{made}
 
--- the calls up to a round: what came of them, the register, and the rounds that were answered
+-- after some of the calls: the last outcome, the register, and the rounds called
 pub record Progress : Type 0 where
   pub outcome : Outcome
   pub words : List ℕ
   pub rounds : List RoundMade
 
--- what a round is lent to write to
+-- the lists that a round is lent to write to
 abbrev pub answersLent : List ℕ
 answersLent = replicate bidAnswerWords 0
 
@@ -28,7 +28,7 @@ resultsLent = replicate pathAnswerWords 0
 abbrev pub scratchLent : List ℕ
 scratchLent = replicate scratchWords 0
 
--- a round with the words of its bids
+-- a round, called with the words of its bids
 unfoldable pub roundOf : Book → List ℕ → List RoundMade → List ℕ → Progress
 roundOf b words before bids =
     record {
@@ -67,6 +67,6 @@ written (suc n) listed done = refusedText (suc n)
 abbrev pub ended : List ℕ → Progress → List ℕ
 ended listed done = written (answerNumber (done .outcome .answer)) listed done
 
--- what comes of the calls up to open, of the rounds behind them, and of the bidders listed
+-- the output, from the outcome of the calls up to open, the bidders listed, and the words of the rounds
 unfoldable pub outputFrom : Outcome → List ℕ → List (List ℕ) → List ℕ
 outputFrom o listed rounds = ended listed (roundsFrom (begun o) rounds)

@@ -1,4 +1,4 @@
-// The rounds of an auction, from the book that its open leaves, and the output behind them.
+// The rounds of an auction, from the book that its open leaves, and the output after them.
 use award_rounds::refusals;
 use market::answer::Outcome;
 use market::answer::Refusal;
@@ -36,7 +36,7 @@ fn round_of(
     round::round(book, words, bids, answers, results, &mut scratch)
 }
 
-// The output of a short auction with these bids, for the bidders listed.
+// Writes the output of a short auction with these bids, for the bidders listed.
 pub fn short_output(book: Book, bids: &[u32], listed: &[u32], out: &mut [u8]) -> usize
     requires { ⌜ State book emptyRegister ⌝ }
     requires { ⌜ every isBidder (now listed) ≡ true ⌝ }
@@ -57,7 +57,7 @@ pub fn short_output(book: Book, bids: &[u32], listed: &[u32], out: &mut [u8]) ->
     award_rounds::put_one(out, outcome.book, listed, bids, &answers, &results)
 }
 
-// The output of a long auction with these bids in its first round, and these later ones in its second.
+// Writes the output of a long auction, with the bids of its first round and the later ones of its second.
 pub fn long_output(book: Book, bids: &[u32], later: &[u32], listed: &[u32], out: &mut [u8]) -> usize
     requires { ⌜ State book emptyRegister ⌝ }
     requires { ⌜ every isBidder (now listed) ≡ true ⌝ }

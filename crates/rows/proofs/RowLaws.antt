@@ -15,7 +15,7 @@ use Rattle.rows.specs.Rows.{spaced, row, lastRow, rows}
 
 -- ---- Pieces
 
--- the number at a place of a list, and those behind it
+-- the number at a place of a list, and those after it
 pub spaced-next : (ns : List ℕ) (i : ℕ) → i < length ns → spaced (drop i ns) ≡ (space ∷ decimal (getD ns i 0)) ++ spaced (drop (i + 1) ns)
 spaced-next ns i h =
     ap spaced (drop-cons ns i 0 h ∙ ap (λ (k : ℕ). getD ns i 0 ∷ drop k ns) (sym (add-one i)))
@@ -23,7 +23,7 @@ spaced-next ns i h =
 pub spaced-none : (ns : List ℕ) (i : ℕ) → length ns ≤ i → spaced (drop i ns) ≡ []
 spaced-none ns i h = ap spaced (drop-of-length-le ns h)
 
--- the row at a place of a list, and those behind it
+-- the row at a place of a list, and those after it
 pub rows-next : (mark : List ℕ) (size count : ℕ) (list : List ℕ) (k from : ℕ) → k < count → rows mark size (count - k) (drop from list) ≡ row mark (take (from + size - from) (drop from list)) ++ rows mark size (count - (k + 1)) (drop (from + size) list)
 rows-next mark size count list k from h =
     let more : count - k ≡ suc (count - (k + 1)) = omega arith in
@@ -36,7 +36,7 @@ pub rows-none : (mark : List ℕ) (size count : ℕ) (list : List ℕ) (k from :
 rows-none mark size count list k from h =
     let none : count - k ≡ 0 = omega arith in ap (λ (n : ℕ). rows mark size n (drop from list)) none
 
--- a row less is to come
+-- the numbers of the rows to come are those of one row and of the rows after it
 pub one-less : (size count k : ℕ) → k < count → (count - k) * size ≡ size + (count - (k + 1)) * size
 one-less size count k h =
     let more : count - k ≡ suc (count - (k + 1)) = omega arith in omega (arith, ap (λ (n : ℕ). n * size) more, suc-mul (count - (k + 1)) size)
@@ -51,12 +51,12 @@ digits-most (suc k) n = go (ltb n 10) (digits-most k (n / 10))
     go true h = omega arith
     go false h = omega (arith, length-append (decimalTo k (n / 10)) ((zeroByte + n % 10) ∷ []))
 
--- a number, whichever it is
+-- any number
 pub decimal-most : (n : ℕ) → length (decimal n) ≤ decimalDigits
 unfolding decimal
 decimal-most n = digits-most decimalDigits n
 
--- so many numbers with a space before each
+-- numbers with a space before each
 pub spaced-most : (ns : List ℕ) → length (spaced ns) ≤ length ns * (decimalDigits + 1)
 spaced-most [] = omega arith
 spaced-most (n ∷ ns) = omega (arith, spaced-most ns, decimal-most n, length-append (decimal n) (spaced ns))
@@ -67,7 +67,7 @@ row-most mark ns = omega (arith, spaced-most ns, length-append mark (spaced ns))
 pub last-row-most : (mark ns : List ℕ) → length (lastRow mark ns) ≤ length mark + length ns * (decimalDigits + 1) + 1
 last-row-most mark ns = omega (arith, row-most mark ns, length-append (row mark ns) (newline ∷ []))
 
--- rows of a size, each of which is at most so long
+-- `k` rows, each at most `most` bytes long
 pub rows-most : (mark : List ℕ) (size most : ℕ) → length mark + size * (decimalDigits + 1) ≤ most → (k : ℕ) (list : List ℕ) → length (rows mark size k list) ≤ k * most
 rows-most mark size most h zero list = omega arith
 rows-most mark size most h (suc k) list =

@@ -8,7 +8,7 @@ ghost use Rattle.text.specs.Put.{putAt};
 ghost use Rattle.fields.specs.Fields.{space};
 ghost use Rattle.rows.specs.Rows.{spaced, row, lastRow, rows};
 
-// A number behind one space; the place behind it.
+// A number after one space; returns the place after it.
 fn put_behind_space(out: &mut [u8], at: usize, n: u64) -> usize
     requires { ⌜ at + length (space ∷ decimal n) ≤ length (now out) ⌝ }
     ensures place { λ r. ⌜ r ≡ at + length (space ∷ decimal n) ⌝ }
@@ -18,7 +18,7 @@ fn put_behind_space(out: &mut [u8], at: usize, n: u64) -> usize
     text::put_number(out, at + 1, n)
 }
 
-// Numbers, each behind one space; the place behind them.
+// Numbers, each after one space; returns the place after them.
 fn put_spaced(out: &mut [u8], at: usize, numbers: &[u64]) -> usize
     requires { ⌜ at + length (spaced (now numbers)) ≤ length (now out) ⌝ }
     ensures place { λ r. ⌜ r ≡ at + length (spaced (now (numbers .entry))) ⌝ }
@@ -31,7 +31,7 @@ fn put_spaced(out: &mut [u8], at: usize, numbers: &[u64]) -> usize
     place
 }
 
-// A mark and numbers; the place behind them.
+// A mark and numbers; returns the place after them.
 pub fn put_row(out: &mut [u8], at: usize, mark: &[u8], numbers: &[u64]) -> usize
     requires { ⌜ at + length (row (now mark) (now numbers)) ≤ length (now out) ⌝ }
     ensures place { λ r. ⌜ r ≡ at + length (row (now (mark .entry)) (now (numbers .entry))) ⌝ }
@@ -41,7 +41,7 @@ pub fn put_row(out: &mut [u8], at: usize, mark: &[u8], numbers: &[u64]) -> usize
     put_spaced(out, next, numbers)
 }
 
-// A row that ends its line; the place behind it.
+// A row that ends its line; returns the place after it.
 pub fn put_last_row(out: &mut [u8], at: usize, mark: &[u8], numbers: &[u64]) -> usize
     requires { ⌜ at + length (lastRow (now mark) (now numbers)) ≤ length (now out) ⌝ }
     ensures place { λ r. ⌜ r ≡ at + length (lastRow (now (mark .entry)) (now (numbers .entry))) ⌝ }
@@ -51,7 +51,7 @@ pub fn put_last_row(out: &mut [u8], at: usize, mark: &[u8], numbers: &[u64]) -> 
     text::put_bytes(out, end, b"\n")
 }
 
-// So many rows of a size, read one behind another in a list.
+// `count` rows of `size` numbers each, read one after another from a list; returns the place after them.
 pub fn put_rows(
     out: &mut [u8],
     at: usize,

@@ -1,4 +1,4 @@
-// Whether two books are the same, and check sums by which to tell whether a list is what it was.
+// Whether two books are the same, and check sums that show whether a list has changed.
 use market::book::Bidder;
 use market::book::Book;
 use market::book::Direction;
@@ -142,7 +142,7 @@ pub fn sum(start: u64, words: &[u32]) -> u64 {
     found
 }
 
-// The same of a list of 64-bit words.
+// The same for a list of 64-bit words.
 pub fn wide_sum(start: u64, words: &[u64]) -> u64 {
     let mut found = start;
     for at in 0..words.len() {

@@ -1,4 +1,4 @@
-// A line of a sheet's section, read by what the lines before it ask of it: the bytes that it takes, and what it asks of the next line.
+// A line of a section of a sheet, read by what the lines before it ask of it: its bytes, and what it asks of the next line.
 use lines::part::Part;
 use lines::part::Step;
 use market::engine::Engine;
@@ -10,7 +10,7 @@ ghost use Rattle.lines.specs.Lines.{bidderUsed, lineAt};
 // How many bidders there are.
 const BIDDERS: u64 = Engine::BIDDERS as u64;
 
-// A bidder's line: bidder, cash and letter. The bidder's number is at least the one given.
+// A bidder's line: bidder, cash and letter. The bidder's number must be at least `least`.
 fn bidder_used(bytes: &[u8], at: usize, least: u64) -> usize
     requires { ⌜ at ≤ length (now bytes) ⌝ }
     ensures bidder { λ r. ⌜ r ≡ bidderUsed least (drop at (now (bytes .entry))) ⌝ }
@@ -26,7 +26,7 @@ fn bidder_used(bytes: &[u8], at: usize, least: u64) -> usize
     fields::numbers_used(bytes, at, fields::AMOUNT_TOP, fields::NEWLINE, 3)
 }
 
-// A line of a section, by what the lines before it ask of it.
+// A line of a section, where `state` is what the lines before it ask of it.
 pub fn line_at(part: Part, state: u64, bytes: &[u8], at: usize) -> Step
     requires { ⌜ state + 1 < 2 ^ 64 ⌝ }
     requires { ⌜ at ≤ length (now bytes) ⌝ }

@@ -21,7 +21,7 @@ abbrev pub withSold : Path → ℕ → Path
 withSold p more =
     record { direction = p .direction; zone = p .zone; offer = p .offer; sold = megawatts (p .sold .0 + more) }
 
--- in a sound book no path has sold more than a quantity of MW
+-- in a sound book no path has sold more than 9,999 MW, the limit of a quantity
 abbrev pub soldWithin : Path → Bool
 soldWithin p = soundQuantity (p .sold .0)
 

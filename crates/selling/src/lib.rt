@@ -14,7 +14,7 @@ ghost use Rattle.market.specs.Sound.{soundQuantity};
 ghost use Rattle.selling.specs.Selling.{withSold, soldWithin, soldTo};
 ghost use Rattle.offers.specs.Offers.{offeredIn};
 
-// What a round offers of each of the first so many paths, and nothing past them.
+// What a round offers of each of the first `count` paths, and nothing past them.
 pub fn offered_by(
     kind: Kind,
     round: u32,
@@ -48,7 +48,7 @@ fn with_sold(path: Path, more: u32) -> Path
     }
 }
 
-// The paths, the first so many of them with what the round sold.
+// The paths, with what the round sold added to the first `count` of them.
 pub fn sold_of(
     paths: [Path; Engine::PATHS],
     sold: [u32; Engine::PATHS],

@@ -36,13 +36,13 @@ all-eligible cs es ws p q h =
     ext-getD 0 ws (eligible cs es) (q ∙ sym (eligible-length cs es p))
     (λ (j : ℕ) (b : j < length ws). h j b ∙ sym (eligible-at cs es j p))
 
--- the weights are at most the energy
+-- the weights together are at most the energy
 pub eligible-total : (cs es : List ℕ) → total (eligible cs es) ≤ total es
 eligible-total [] es = omega arith
 eligible-total (c ∷ cs) [] = omega arith
 eligible-total (c ∷ cs) (e ∷ es) = omega (arith, kept-at-most (ltb 0 c) e, eligible-total cs es)
 
--- one participant with a charge and energy is enough for weights
+-- if one participant has a charge and energy, the weights are not all 0
 pub some-eligible : (cs es : List ℕ) (i : ℕ) → length cs ≡ length es → 0 < getD cs i 0 → 0 < getD es i 0 → 0 < total (eligible cs es)
 some-eligible cs es i alike charge energy =
     let at : getD (eligible cs es) i 0 ≡ getD es i 0 = eligible-at cs es i alike ∙ ap (λ (t : Bool). cond t (getD es i 0) 0) (lt-ltb 0 (getD cs i 0) charge) in

@@ -12,7 +12,7 @@ use Rattle.sharing.proofs.Largest.{all-zero, largest-at, largest-within
 use Rattle.sharing.proofs.Totals.{total-set}
 use Rattle.sharing.specs.Sharing.{total, biggest, largest, oneMore, spent, handOut}
 
--- a cent more for one participant
+-- one cent more for one participant
 pub one-more-length : (shares : List ℕ) (place : ℕ) → length (oneMore shares place) ≡ length shares
 one-more-length shares place = length-set shares place (getD shares place 0 + 1)
 
@@ -61,7 +61,7 @@ module _ (whole cents : ℕ) (rems shares : List ℕ) (e : Enough whole (suc cen
   pub place-within : largest rems < length rems
   place-within = largest-within rems largest-left
 
-  -- and when it is spent there are enough for the other cents
+  -- and when it is spent, the others are enough for the other cents
   pub enough-next : Enough whole cents (spent rems (largest rems)) (oneMore shares (largest rems))
   enough-next =
       record {
@@ -70,7 +70,7 @@ module _ (whole cents : ℕ) (rems shares : List ℕ) (e : Enough whole (suc cen
         enough = omega (arith, total-set rems (largest rems) 0 place-within, e .below (largest rems), e .enough);
       }
 
--- what a participant gets: at least the share that it has, and at most a cent more, that only for a remainder
+-- what a participant gets: at least the share that it has, and at most one cent more, which needs a remainder above 0
 abbrev pub Gets : ℕ → ℕ → ℕ → Type 0
 Gets share rem got = (share ≤ got) × (got ≤ share + min 1 rem)
 
@@ -92,7 +92,7 @@ module _ (rems shares : List ℕ) (place : ℕ) (within : place < length rems) (
           let rem = getD-set-other rems place i 0 0 (eqb-false i place p) in
           omega arith
 
--- the cents are all given
+-- all the cents are given
 pub hand-out-total : (whole cents : ℕ) (rems shares : List ℕ) → Enough whole cents rems shares → total (handOut cents rems shares) ≡ total shares + cents
 hand-out-total whole zero rems shares e = omega arith
 hand-out-total whole (suc cents) rems shares e =

@@ -15,12 +15,12 @@ at-most [] i = omega arith
 at-most (x ∷ l) zero = omega arith
 at-most (x ∷ l) (suc i) = omega (arith, at-most l i)
 
--- where the largest is 0 all are 0
+-- if the largest is 0, all are 0
 pub all-zero : (l : List ℕ) → biggest l ≡ 0 → total l ≡ 0
 all-zero [] h = refl
 all-zero (x ∷ l) h = omega (arith, all-zero l (omega arith))
 
--- the head of a list against the largest of the rest, `m` at the place `k`
+-- the head `x` of a list, compared with the largest of the rest, which is `m` at the place `k`
 module _ (x m k : ℕ) (l : List ℕ) where
   pick-at : getD l k 0 ≡ m → (t : Bool) → leb m x ≡ t → getD (x ∷ l) (cond t 0 (suc k)) 0 ≡ max x m
   pick-at h true e = let le : m ≤ x = leb-true m x e in omega arith
@@ -40,13 +40,13 @@ pub largest-at : (l : List ℕ) → getD l (largest l) 0 ≡ biggest l
 largest-at [] = refl
 largest-at (x ∷ l) = pick-at x (biggest l) (largest l) l (largest-at l) (leb (biggest l) x) refl
 
--- it is a place of the list
+-- the place of the largest is within the list
 pub largest-within : (l : List ℕ) → 0 < biggest l → largest l < length l
 largest-within [] h = h
 largest-within (x ∷ l) h =
     pick-within x (biggest l) (largest l) l (leb (biggest l) x) refl (λ (p : 0 < biggest l). largest-within l p)
 
--- and what stands before it is smaller
+-- and each element before it is smaller
 pub largest-first : (l : List ℕ) (j : ℕ) → j < largest l → getD l j 0 < biggest l
 largest-first [] j h = absurd (none h)
   where
@@ -55,7 +55,7 @@ largest-first [] j h = absurd (none h)
 largest-first (x ∷ l) j h =
     pick-first x (biggest l) (largest l) l (λ (i : ℕ) (p : i < largest l). largest-first l i p) j (leb (biggest l) x) refl h
 
--- a place that no other passes, and that each before it falls short of, is the place of the first largest
+-- a place whose element no other is above, and all before it are below, is the place of the first largest
 module _ (l : List ℕ) (k : ℕ) (most : biggest l ≤ getD l k 0) (first : (j : ℕ) → j < k → getD l j 0 < getD l k 0) where
   not-before : k < largest l → ⊥
   not-before h = omega (arith, largest-first l k h)
@@ -71,7 +71,7 @@ module _ (l : List ℕ) (k : ℕ) (most : biggest l ≤ getD l k 0) (first : (j 
       go false true p q = absurd (not-after (ltb-true (largest l) k q))
       go false false p q = omega (arith, ltb-false k (largest l) p, ltb-false (largest l) k q)
 
--- the largest is at most what none passes
+-- the largest is at most any number that no element is above
 pub biggest-least : (l : List ℕ) (m : ℕ) → ((j : ℕ) → j < length l → getD l j 0 ≤ m) → biggest l ≤ m
 biggest-least [] m h = omega arith
 biggest-least (x ∷ l) m h =

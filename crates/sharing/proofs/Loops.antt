@@ -1,4 +1,4 @@
--- What the loops keep: a sum so far, the best place so far, a list filled so far, the cents handed out so far.
+-- Invariants of the loops: the sum so far, the best place so far, the list filled so far, the cents handed out so far.
 use mathlib.Core.Path.{_≡_, refl, _∙_, ap}
 use mathlib.Core.Bool.{Bool, true, false}
 use mathlib.Core.List.{List, map, append-nil}
@@ -20,7 +20,7 @@ use Rattle.sharing.specs.Sharing.{total, largest, oneMore, spent, handOu
 pub product-within : (pool weight : ℕ) → pool ≤ poolLimit → weight ≤ columnLimit → pool * weight ≤ poolLimit * columnLimit
 product-within pool weight p q = mul-le-mul p q
 
--- ---- a sum, made from the front: with the elements from `i` on it makes the whole
+-- ---- a sum, made from the front: `sum` and the elements from `i` on together make the total
 abbrev pub Summed : List ℕ → ℕ → ℕ → Type 0
 Summed l i sum = sum + total (drop i l) ≡ total l
 
@@ -35,7 +35,7 @@ module _ (l : List ℕ) (i sum : ℕ) (h : Summed l i sum) where
       let e : total (drop i l) ≡ 0 = ap total (drop-of-length-le l p) in
       omega arith
 
--- ---- the best place among the first `i`: none of them passes it, and each before it falls short
+-- ---- the best place among the first `i`: none of them has a larger element, and each place before it has a smaller one
 pub record Best (l : List ℕ) (i best : ℕ) : Type 0 where
   pub most : (j : ℕ) → j < i → getD l j 0 ≤ getD l best 0
   pub first : (j : ℕ) → j < best → getD l j 0 < getD l best 0
@@ -58,7 +58,7 @@ module _ (l : List ℕ) (i best : ℕ) (h : Best l i best) where
   best-of-all p =
       is-largest l best (biggest-least l (getD l best 0) (λ (j : ℕ) (q : j < length l). h .most j (omega arith))) (h .first)
 
--- ---- a list made from the front: storing the next element keeps those before it
+-- ---- a list made from the front: storing the next element leaves those before it as they are
 pub stored-next : (f : ℕ → ℕ) (l : List ℕ) (i v : ℕ) → i < length l → ((j : ℕ) → j < i → getD l j 0 ≡ f j) → v ≡ f i → (j : ℕ) → j < i + 1 → getD (set l i v) j 0 ≡ f j
 stored-next f l i v within before is j p = go (eqb j i) refl
   where
@@ -70,14 +70,14 @@ stored-next f l i v within before is j p = go (eqb j i) refl
         let other : j ≡ i → ⊥ = eqb-false j i e in
         getD-set-other l i j v 0 other ∙ before j (omega arith)
 
--- and the images of a list are all stored at its end
+-- at the end the images of all elements are stored
 pub all-filled : (f : ℕ → ℕ) (l : List ℕ) (n i : ℕ) → length l ≡ n → n ≤ i → i ≤ n → filled f l n 0 i ≡ map f l
 all-filled f l n i long p q =
     let none : n - i ≡ 0 = omega arith in
     let all : take i l ≡ l = take-all i l (omega arith) in
     rw (none, all) (append-nil (map f l))
 
--- ---- the cents handed out so far: what is left to give, given from here, makes what was to be given
+-- ---- the cents handed out so far: handing out the rest from here makes the same as handing out all from the start
 abbrev pub Handed : ℕ → List ℕ → List ℕ → ℕ → List ℕ → List ℕ → Type 0
 Handed cents remainders floors given rems shares = handOut (cents - given) rems shares ≡ handOut cents remainders floors
 

@@ -1,4 +1,4 @@
--- A pool that is shared step by step is shared by the rule.
+-- A pool that is shared step by step, as the code does, is shared as the rule says.
 use mathlib.Core.Path.{_≡_, refl, sym, _∙_, ap}
 use mathlib.Core.List.{List, map}
 use Prim.Native.Nat.{ℕ, zero, suc, _-_, _≤_, _<_}
@@ -8,7 +8,7 @@ use Rattle.sharing.proofs.SharingLaws.{floors-within, nothing-shared}
 use Rattle.sharing.specs.Sharing.{total, floorOf, remainderOf, floors, remainders, handOut, poolShares}
 
 module _ (pool : ℕ) (weights : List ℕ) (whole : ℕ) (is : whole ≡ total weights) where
-  -- with no weight there is nothing to share
+  -- with no weight the pool is empty, and every share is 0
   pub nothing : (0 < pool → 0 < total weights) → whole ≡ 0 → (n : ℕ) → length weights ≡ n → replicate n 0 ≡ poolShares pool weights
   nothing some none n long = go pool refl
     where

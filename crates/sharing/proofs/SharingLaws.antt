@@ -1,5 +1,5 @@
--- The laws of a pool that is shared, for any number of participants: the shares add up to the pool, none without weight has a
--- cent, and each share is its whole cents or one more.
+-- The laws of a pool that is shared, for any number of participants: the shares add up to the pool, nobody without
+-- weight gets a cent, and each share is its whole cents or one more.
 use mathlib.Core.Path.{_≡_, refl, sym, _∙_, ap, ap₂}
 use mathlib.Core.List.{List, [], _∷_, map}
 use Prim.Native.Nat.{ℕ, _+_, _*_, _/_, _%_, _≤_, _<_}
@@ -30,7 +30,7 @@ module _ (pool : ℕ) (weights : List ℕ) where
   remainder-at i =
       rw (remainder-of-none pool (total weights)) at (List·getD-map (remainderOf pool (total weights)) weights i 0)
 
--- what the shares given leave of a pool, in parts of a cent
+-- what the whole cents given leave of a pool, in parts of a cent
 rest-of : (given left rest pool whole : ℕ) → given + left ≡ pool → given * whole + rest ≡ pool * whole → rest ≡ left * whole
 rest-of given left rest pool whole p q = omega (arith, ap (λ (n : ℕ). n * whole) p)
 
@@ -45,7 +45,7 @@ module _ (pool : ℕ) (weights : List ℕ) (some : 0 < total weights) where
   pub all-given : total (floors pool weights) + left pool weights ≡ pool
   all-given = omega (arith, floors-within)
 
-  -- the remainders together are the cents left
+  -- the remainders together, in parts of a cent, are the cents left
   remainders-total : total (remainders pool weights) ≡ left pool weights * total weights
   remainders-total =
       rest-of (total (floors pool weights)) (left pool weights) (total (remainders pool weights)) pool (total weights) all-given
@@ -69,7 +69,7 @@ module _ (pool : ℕ) (weights : List ℕ) (some : 0 < total weights) where
   unfolding poolShares
   gets i = hand-out-gets (total weights) (left pool weights) (remainders pool weights) (floors pool weights) start i
 
-  -- nobody without weight has a cent
+  -- nobody without weight gets a cent
   pub no-weight-no-share : (i : ℕ) → getD weights i 0 ≡ 0 → getD (poolShares pool weights) i 0 ≡ 0
   no-weight-no-share i h =
       let floor : getD (floors pool weights) i 0 ≡ 0 = floor-at pool weights i ∙ ap (floorOf pool (total weights)) h ∙ floor-of-none pool (total weights) in
@@ -91,7 +91,7 @@ shares-length pool weights =
     hand-out-length (left pool weights) (remainders pool weights) (floors pool weights)
     ∙ length-map weights (floorOf pool (total weights))
 
--- of an empty pool every share is 0, with weights or without
+-- every share of an empty pool is 0, with weights or without
 floors-of-nothing : (whole : ℕ) (l : List ℕ) → map (floorOf 0 whole) l ≡ replicate (length l) 0
 floors-of-nothing whole [] = refl
 floors-of-nothing whole (w ∷ l) =
@@ -101,7 +101,7 @@ pub nothing-shared : (weights : List ℕ) → poolShares 0 weights ≡ replicate
 unfolding poolShares
 nothing-shared weights = rw zero-sub (floors-of-nothing (total weights) weights)
 
--- nobody without a charge has a cent of the pool
+-- nobody without a charge gets a cent of the pool
 pub no-charge-no-share : (pool : ℕ) (charges energy : List ℕ) → length charges ≡ length energy → 0 < total (eligible charges energy) → (i : ℕ) → getD charges i 0 ≡ 0 → getD (poolShares pool (eligible charges energy)) i 0 ≡ 0
 no-charge-no-share pool charges energy alike some i none =
     no-weight-no-share pool (eligible charges energy) some i

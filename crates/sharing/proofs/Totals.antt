@@ -12,7 +12,7 @@ total-at [] i = omega arith
 total-at (x ∷ l) zero = omega arith
 total-at (x ∷ l) (suc i) = omega (arith, total-at l i)
 
--- another number at a place changes the sum by as much
+-- replacing the number at a place changes the sum by the difference
 pub total-set : (l : List ℕ) (i v : ℕ) → i < length l → total (set l i v) + getD l i 0 ≡ total l + v
 total-set [] i v h = absurd (none h)
   where

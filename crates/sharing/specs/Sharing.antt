@@ -11,7 +11,7 @@ abbrev pub total : List ℕ → ℕ
 total [] = 0
 total (x ∷ xs) = x + total xs
 
--- "its energy column among those with a charge of its sort above 0": a participant's weight is its energy, and 0 with no charge
+-- "its energy column among those with a charge of its sort above 0": the weight is the energy, and 0 with no charge
 abbrev pub weightOf : ℕ → ℕ → ℕ
 weightOf charge energy = cond (ltb 0 charge) energy 0
 
@@ -42,19 +42,19 @@ abbrev pub biggest : List ℕ → ℕ
 biggest [] = 0
 biggest (x ∷ xs) = max x (biggest xs)
 
--- "by largest remainder, lower number first": the place of the first that no other passes
+-- "by largest remainder, lower number first": the index of the first element that no other is larger than
 abbrev pub largest : List ℕ → ℕ
 largest [] = 0
 largest (x ∷ xs) = cond (leb (biggest xs) x) 0 (suc (largest xs))
 
--- "one cent each": the shares with a cent more at a place, and the remainders with that place's spent
+-- "one cent each": the shares with one cent more at a place, and the remainders with the one at that place spent
 abbrev pub oneMore : List ℕ → ℕ → List ℕ
 oneMore shares place = set shares place (getD shares place 0 + 1)
 
 abbrev pub spent : List ℕ → ℕ → List ℕ
 spent rems place = set rems place 0
 
--- "then one cent each by largest remainder": as many cents as are left
+-- "then one cent each by largest remainder": for as many cents as are left
 abbrev pub handOut : ℕ → List ℕ → List ℕ → List ℕ
 handOut zero rems shares = shares
 handOut (suc cents) rems shares = handOut cents (spent rems (largest rems)) (oneMore shares (largest rems))

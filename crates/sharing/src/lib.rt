@@ -1,1 +1,1 @@
-// Sharing a pool: what each weight gets of it, whole cents dropped down, then one cent each by largest remainder.
+// Sharing a pool: what each weight gets of it, rounded down to whole cents, then one cent each by largest remainder.

@@ -1,4 +1,4 @@
--- Call by call, as `opened` makes them.
+-- Laws about the calls up to open: open with the quantities counted, and call by call, as `opened` makes them.
 use mathlib.Core.Path.{_≡_, sym, _∙_, ap}
 use mathlib.Core.List.{List, map}
 use Prim.Native.Nat.{ℕ, _*_, _≤_}
@@ -21,7 +21,7 @@ use Rattle.preparing.specs.PreparedSlots.{openWith, openedSlots}
 use Rattle.preparing.proofs.DepositLaws.{then-refused, then-next}
 use Rattle.preparing.proofs.PreparingLaws.{fresh-few}
 
--- ---- Open with the quantities counted
+-- ---- Open with the quantities of the paths counted
 
 pub counted-words : (words : List ℕ) (count : ℕ) → length words ≡ pathLimit * quantityWords → count ≤ pathLimit → count * quantityWords ≡ length (take (count * quantityWords) words)
 counted-words words count long few = sym (length-take-le (count * quantityWords) words (omega (arith, long)))

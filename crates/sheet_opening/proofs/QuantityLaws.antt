@@ -12,7 +12,7 @@ use Rattle.sheets.specs.declared.rows.PathLine.{PathLine}
 use Rattle.preparing.specs.Preparing.{quantitiesOf}
 use Rattle.preparing.proofs.SlotLaws.{quantities-length, quantities-append}
 
--- a word behind the first ones
+-- a word stored after the first ones
 put-next : (front : List ℕ) (n k m x : ℕ) → length front ≡ k → k < n → m ≡ k + 1 → set (front ++ replicate (n - k) 0) k x ≡ (front ++ (x ∷ [])) ++ replicate (n - m) 0
 put-next front n k m x long below next =
     fill-snoc front n k 0 x long below
@@ -21,7 +21,7 @@ put-next front n k m x long below next =
 snoc-length : (front : List ℕ) (x k m : ℕ) → length front ≡ k → m ≡ k + 1 → length (front ++ (x ∷ [])) ≡ m
 snoc-length front x k m long next = length-append front (x ∷ []) ∙ (let e : length front + 1 ≡ m = omega (arith, long, next) in e)
 
--- four words behind the first ones
+-- four words stored after the first ones
 put-four : (front : List ℕ) (n k a b c d : ℕ) → length front ≡ k → k + 4 ≤ n → set (set (set (set (front ++ replicate (n - k) 0) k a) (k + 1) b) (k + 2) c) (k + 3) d ≡ (front ++ (a ∷ b ∷ c ∷ d ∷ [])) ++ replicate (n - (k + 4)) 0
 put-four front n k a b c d long room =
     let one = front ++ (a ∷ []) in
@@ -42,7 +42,7 @@ put-four front n k a b c d long room =
 abbrev quantitiesTo : List PathLine → ℕ → List ℕ
 quantitiesTo lines i = quantitiesOf (take i lines) ++ replicate (pathLimit * quantityWords - i * quantityWords) 0
 
--- the quantities of the first lines, and 0 in each place after
+-- the quantities of the first `i` lines, and 0 in each place after them
 pub record QuantitiesTo (lines : List PathLine) (words : List ℕ) (i : ℕ) : Type 0 where
   pub within : i ≤ pathLimit
   pub is : words ≡ quantitiesTo lines i

@@ -1,4 +1,4 @@
-// Fresh book, deposits, open: the calls of a sheet before its first round, in its order.
+// Fresh book, deposits, open: the calls of a sheet before its first round, in the order of the sheet.
 mod slots;
 
 use market::answer::Outcome;
@@ -17,7 +17,7 @@ ghost use Rattle.market.specs.Books.{every};
 ghost use Rattle.market.specs.Limits.{bidderLimit, pathLimit};
 ghost use Rattle.preparing.specs.PreparedSlots.{isListed, openWith, openedSlots};
 
-// Open over an empty register, with the quantities of the paths counted.
+// Open with an empty register and the quantities of as many paths as are counted.
 fn open_with(book: Book, kind: Kind, period: Period, paths: PathRows) -> Outcome
     requires { ⌜ paths .count ≤ pathLimit ⌝ }
     ensures { λ r. ⌜ r ≡ openWith book kind period paths ⌝ }
@@ -29,7 +29,7 @@ fn open_with(book: Book, kind: Kind, period: Period, paths: PathRows) -> Outcome
     opening::open(book, &words, kind, period, &all[..counted])
 }
 
-// Fresh book, deposits, open; the first refusal ends it.
+// Fresh book, deposits, open; the first refusal ends the calls.
 pub fn opened(kind: Kind, period: Period, bidders: BidderRows, paths: PathRows) -> Outcome
     requires { ⌜ bidders .count ≤ bidderLimit ⌝ }
     requires { ⌜ every isListed (bidders .lines) ≡ true ⌝ }

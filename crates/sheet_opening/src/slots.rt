@@ -8,7 +8,7 @@ ghost use mathlib.Core.List.{map};
 ghost use Rattle.market.specs.Books.{noRoute};
 ghost use Rattle.preparing.specs.Preparing.{routeOf, quantitiesOf};
 
-// The quantities of all slots: so many words.
+// How many words the quantities of all slots take.
 pub const QUANTITIES: usize = Engine::PATHS * Engine::QUANTITY_WORDS;
 
 fn no_route() -> Route

@@ -1,4 +1,4 @@
--- A bid's line that is written is read, and one that is read stands in the text as it is written.
+-- A bid's line that is written is read, and one that is read is in the text as it is written.
 use mathlib.Core.Path.{_≡_, refl, sym, _∙_, ap, ap₂, subst}
 use mathlib.Core.Bool.{true, _&&_}
 use mathlib.Core.List.{List, [], _∷_, _++_, append-assoc, append-nil}
@@ -50,7 +50,7 @@ bid-some b =
       text-some newline (length (b .laminations)) (pairsOf b),
     )
 
--- the number at the front of numbers that are written
+-- the first of the numbers that are written
 first-number : (n : ℕ) (ns rest : List ℕ) → n < 10 ^ 13 → numberAt (numbersText newline (n ∷ ns) ++ rest) .value ≡ n
 first-number n [] rest few =
     ap (λ (l : List ℕ). numberAt l .value) (append-assoc (decimal n) (newline ∷ []) rest)
@@ -145,7 +145,7 @@ pub record BidRead (text : List ℕ) : Type 0 where
   pub words : bidEncoded (bidAt (bidWords text) 0) ≡ bidWords text
   pub right : rightBid (bidAt (bidWords text) 0) ≡ true
 
--- so many words, the fourth of which counts the pairs behind it, are those of the bid that is read in them
+-- words of which the fourth counts the pairs after it are the words of the bid that is read in them
 bid-of-words : (words : List ℕ) → length words ≡ 4 + 2 * getD words 3 0 → bidEncoded (bidAt words 0) ≡ words
 bid-of-words words long =
     let end : bidEnd words 0 ≡ length words = omega (arith, long) in
@@ -153,14 +153,14 @@ bid-of-words words long =
     ∙ ap (λ (l : List ℕ). bidEncoded (bidAt words 0) ++ l) (sym (drop-of-length-le words {i = bidEnd words 0} (omega (arith, end))))
     ∙ bid-back words 0 (omega (arith, end))
 
--- the first of numbers that are read is the number at the front of the text
+-- the first of the numbers that are read is the number at the front of the text
 said-first : (limit last k : ℕ) (text : List ℕ) → 1 ≤ numbersUsed limit last (suc k) text → getD (numbersSaid limit last (suc k) text) 0 0 ≡ numberAt text .value
 said-first limit last zero text used = field-value limit last text used
 said-first limit last (suc k) text used =
     let f = fieldAt limit space text in
     field-value limit space text (both-stand (f .used) (numbersUsed limit last (suc k) (drop (f .used) text)) used .0)
 
--- numbers ended by a space, before more of them
+-- numbers of which the last is ended by a space, and more numbers after them
 join-text : (last n : ℕ) (ns ms : List ℕ) → 1 ≤ length ms → numbersText last ((n ∷ ns) ++ ms) ≡ numbersText space (n ∷ ns) ++ numbersText last ms
 join-text last n ns [] some = absurd (let none : ⊥ = omega arith in none)
 join-text last n ns (m ∷ ms) some = text-join last n ns m ms

@@ -1,4 +1,4 @@
--- A section behind its count: written it is read, and read it stands as it is written.
+-- A section after its count: one that is written is read, and one that is read is in the text as it is written.
 use mathlib.Core.Path.{_≡_, sym, _∙_, ap, ap₂, subst}
 use mathlib.Core.Bool.{true}
 use mathlib.Core.List.{List, _++_, append-assoc}

@@ -1,4 +1,4 @@
--- Lines counted one by one, as `lines_from` does.
+-- Laws about the form: lines counted one by one, as `lines_from` does, the sections, the end and the whole sheet.
 use mathlib.Core.Path.{_≡_, refl, sym, _∙_, ap, ap₂, subst}
 use mathlib.Core.Bool.{Bool, true, false, _&&_}
 use mathlib.Core.List.{List, [], _∷_}
@@ -75,7 +75,7 @@ module _ (part : Part) (bytes : List ℕ) (at count lines used state left : ℕ)
     one : linesAt part count 0 (drop at bytes) ≡ after lines used (lineThen (here .used) (linesAt part k (here .next) (drop (here .used) (drop (at + used) bytes))))
     one = s .rest ∙ ap (λ (n : ℕ). after lines used (linesAt part n state (drop (at + used) bytes))) more
 
-    -- the line here does not stand
+    -- the line here is faulty
     pub line-faulty : (step : Step) → step ≡ here → step .used ≡ 0 → record { lines = lines; used = used } ≡ linesAt part count 0 (drop at bytes)
     line-faulty step is zeroth =
         let none : here .used ≡ 0 = ap (λ (p : Step). p .used) (sym is) ∙ zeroth in
@@ -84,7 +84,7 @@ module _ (part : Part) (bytes : List ℕ) (at count lines used state left : ℕ)
         ∙ ap (λ (n : ℕ). after lines used (lineThen n (linesAt part k (here .next) (drop (here .used) (drop (at + used) bytes))))) none
         ∙ same-read refl refl)
 
-    -- the line here stands
+    -- the line here is right
     pub line-read : (step : Step) → step ≡ here → (step .used ≡ 0 → ⊥) → at + used + step .used ≤ length bytes → LinesTo part bytes at count (lines + 1) (used + step .used) (step .next) k
     line-read step is some fits =
         subst (λ (p : Step). LinesTo part bytes at count (lines + 1) (used + p .used) (p .next) k) (sym is)
@@ -120,7 +120,7 @@ module _ (part : Part) (bytes : List ℕ) (at used value : ℕ) (taken : used �
   abbrev text : List ℕ
   text = drop at bytes
 
-  -- its count line does not stand
+  -- its count line is faulty
   module _ (none : used ≡ 0) where
     section-none : sectionAt part text ≡ record { lines = 0; used = 0 }
     section-none = ap (λ (n : ℕ). lineThen n (linesAt part (countSaid part text) 0 (drop (countUsed part text) text))) (sym taken ∙ none)
@@ -137,7 +137,7 @@ module _ (part : Part) (bytes : List ℕ) (at used value : ℕ) (taken : used �
     pub none-used : 0 ≡ sectionAt part text .used
     none-used = ap (λ (r : Read). r .used) (sym section-none)
 
-  -- it does, and these lines behind it
+  -- its count line is right, and so are these lines after it
   module _ (some : used ≡ 0 → ⊥) (more : Read) (read : more ≡ linesAt part value 0 (drop (at + used) bytes)) where
     section-some : record { lines = 1 + more .lines; used = used + more .used } ≡ sectionAt part text
     section-some =
@@ -173,14 +173,14 @@ before-end bytes at line inside other =
 -- ---- A section before others
 
 module _ (part : Part) (parts : List Part) (bytes : List ℕ) (at line : ℕ) (found : Section) (stands : found .stands ≡ sectionStands part (drop at bytes)) (lines : found .lines ≡ sectionAt part (drop at bytes) .lines) where
-  -- its first line that does not stand
+  -- a line of it is faulty: the form is the first such line
   pub form-faulty : found .stands ≡ false → Faulty (line + found .lines) ≡ formFrom (part ∷ parts) line (drop at bytes)
   form-faulty fails =
       let next = line + sectionAt part (drop at bytes) .lines in
       ap (λ (n : ℕ). let f : Form = Faulty (line + n) in f) lines
       ∙ ap (λ (t : Bool). ifStands t next (formFrom parts next (drop (sectionAt part (drop at bytes) .used) (drop at bytes)))) (sym fails ∙ stands)
 
-  -- what is behind it
+  -- all its lines are right: the form is that of what follows
   pub form-on : (form : Form) → found .used ≡ sectionAt part (drop at bytes) .used → found .stands ≡ true → form ≡ formFrom parts (line + found .lines) (drop (at + found .used) bytes) → form ≡ formFrom (part ∷ parts) line (drop at bytes)
   form-on form used good is =
       let next = line + sectionAt part (drop at bytes) .lines in
@@ -189,7 +189,7 @@ module _ (part : Part) (parts : List Part) (bytes : List ℕ) (at line : ℕ) (f
       (sym (drop-drop (found .used) at bytes) ∙ ap (λ (n : ℕ). drop n (drop at bytes)) used)
       ∙ ap (λ (t : Bool). ifStands t next (formFrom parts next (drop (sectionAt part (drop at bytes) .used) (drop at bytes)))) (sym good ∙ stands)
 
--- the sections of bids behind the first
+-- the sections of bids after the first
 abbrev pub laterRounds : Kind → List Part
 laterRounds Short = []
 laterRounds Long = Bids ∷ []
@@ -205,7 +205,7 @@ if-right (Faulty line) h = tt
 pub if-faulty : (form : Form) (line : ℕ) (fact : Type 0) → form ≡ Faulty line → IfRight form fact
 if-faulty form line fact is = subst (λ (f : Form). IfRight f fact) (sym is) tt
 
--- the sections of a kind: bidders, paths, and those of bids
+-- the sections of a sheet of this kind: bidders, paths, and those of bids
 pub parts-of : (kind : Kind) → Bidders ∷ Paths ∷ replicate (roundsOf kind) Bids ≡ partsOf kind
 parts-of Short = refl
 parts-of Long = refl
@@ -218,7 +218,7 @@ long-kind bytes is = sym (ap longIf (eq-eqb (getD bytes kindPlace 0) (kindByte L
 pub short-kind : (bytes : List ℕ) → (getD bytes kindPlace 0 ≡ kindByte Long → ⊥) → Short ≡ kindIn bytes
 short-kind bytes other = sym (ap longIf (ne-eqb (getD bytes kindPlace 0) (kindByte Long) other))
 
--- a title is longer than what stands before its days
+-- a title is longer than the part before its days
 pub title-long : (bytes : List ℕ) (title : ℕ) → title ≡ titleUsed bytes → (title ≡ 0 → ⊥) → title ≤ length bytes → 6 ≤ length bytes
 title-long bytes title is some fits =
     let word = startsWith (spaced titleWord) bytes in

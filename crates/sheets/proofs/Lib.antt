@@ -1,4 +1,4 @@
--- The sheets that are read are just those that are written.
+-- The sheets that are read are exactly those that are written.
 pub mod BidLineLaws
 pub mod CountedLaws
 pub mod FormLaws

@@ -1,4 +1,4 @@
--- Each line of a sheet that is written is read, and each that is read stands in the text as it is written.
+-- Each line of a sheet that is written is read, and each that is read is in the text as it is written.
 use mathlib.Core.Path.{_≡_, refl, sym, _∙_, ap, ap₂, subst}
 use mathlib.Core.Bool.{Bool, true, false, cond, _&&_, _||_, false≢true}
 use mathlib.Core.List.{List, [], _∷_, _++_, append-assoc}
@@ -120,7 +120,7 @@ cond-read : (t : Bool) (n : ℕ) → 1 ≤ cond t n 0 → (t ≡ true) × (cond 
 cond-read true n h = (refl, refl)
 cond-read false n h = absurd (let none : ⊥ = omega arith in none)
 
--- a bidder that may stand where the least number is given
+-- a bidder's line that is right, given the least number that it may have
 abbrev pub rightBidder : ℕ → BidderLine → Bool
 rightBidder least x = leb least (x .bidder) && ltb (x .bidder) bidderLimit && fitsAmount (x .cash) && fitsAmount (x .letter)
 
@@ -204,7 +204,7 @@ direction-again : (d : Direction) → directionOf (directionByte d) ≡ d
 direction-again Export = refl
 direction-again Import = refl
 
--- a byte that is a direction's is the byte of what it is read as
+-- the byte of a direction is the byte of the direction that is read from it
 direction-read : (c : ℕ) → isDirection c ≡ true → directionByte (directionOf c) ≡ c
 direction-read c h = go (eqb c (directionByte Import)) refl
   where
@@ -215,7 +215,7 @@ direction-read c h = go (eqb c (directionByte Import)) refl
 abbrev pathNumbers : PathLine → List ℕ
 pathNumbers p = p .zone ∷ p .base ∷ p .upper ∷ p .first ∷ p .second ∷ []
 
--- direction and space
+-- the direction and the space after it
 abbrev wayText : PathLine → List ℕ
 wayText p = directionByte (p .direction) ∷ space ∷ []
 

@@ -1,4 +1,4 @@
--- The place at which the paths begin is that of the rules.
+-- The place found for the paths is the place where the rules read them.
 use mathlib.Core.Path.{_≡_, sym, _∙_, ap}
 use mathlib.Core.List.{List}
 use Prim.Native.Nat.{ℕ}

@@ -1,5 +1,5 @@
--- What is known of a text that has the form of a sheet: its title stands, its bidders are few, and its bid sections are the parts that
--- are handed back.
+-- What is known of a well-formed sheet: it has a title, it has few bidders, and its bid sections are the parts of it that are
+-- handed back.
 use mathlib.Core.Path.{_≡_, refl, sym, _∙_, ap, ap₂}
 use mathlib.Core.Bool.{true, _&&_}
 use mathlib.Core.List.{List, [], _∷_}
@@ -42,7 +42,7 @@ says-count part read text = lines-count part read (countSaid part text) 0 (drop 
 
 -- ---- Bidders
 
--- the first of lines that are right: its number, and those behind it
+-- the first of lines that are right: its number, and the lines after it
 pub first-rises : (least : ℕ) (x : BidderLine) (xs : List BidderLine) → rightBidders least (x ∷ xs) ≡ true → (least ≤ x .bidder) × (ltb (x .bidder) bidderLimit ≡ true) × (rightBidders (x .bidder + 1) xs ≡ true)
 first-rises least x xs right =
     let above = leb least (x .bidder) in
@@ -56,7 +56,7 @@ first-rises least x xs right =
       right-true (above && below && cash && letter) rest right,
     )
 
--- numbers below 32 that rise are at most 32
+-- there are at most 32 rising numbers below 32
 rising-few : (least : ℕ) (xs : List BidderLine) → least ≤ bidderLimit → rightBidders least xs ≡ true → least + length xs ≤ bidderLimit
 rising-few least [] most right = omega (arith, most)
 rising-few least (x ∷ xs) most right =
@@ -81,11 +81,11 @@ module _ (text : List ℕ) (stands : sectionStands Bids text ≡ true) where
       let r = section-read bidSort bid-in bid-out text stands in
       ap₂ _&&_ (le-leb (length bids) wordTop (r .most)) (sym (bids-right bids 0) ∙ r .right)
 
-  -- the words of a section that stands
+  -- the words of a section whose lines are right
   pub part-words : wordsOf (partAt Bids text) ≡ encoded bids
   part-words = ap wordsOf part-is ∙ section-words bids bids-are-right
 
--- a section with nothing behind it
+-- a section with nothing after it
 whole-part : (text : List ℕ) → length (behindPart Bids text) ≡ 0 → partAt Bids text ≡ text
 whole-part text none = take-all (sectionAt Bids text .used) text none
   where
@@ -95,7 +95,7 @@ whole-part text none = take-all (sectionAt Bids text .used) text none
     take-all (suc n) [] h = refl
     take-all (suc n) (c ∷ l) h = ap (λ (rest : List ℕ). c ∷ rest) (take-all n l h)
 
--- the first section of a sheet's bids stands, and of a long auction's the second, with nothing behind it
+-- the first section of bids is right, and so is the second of a long auction, with nothing after it
 first-stands : (kind : Kind) (line : ℕ) (text : List ℕ) → formFrom (replicate (roundsOf kind) Bids) line text ≡ Right → sectionStands Bids text ≡ true
 first-stands Short line text h =
     let next = line + sectionAt Bids text .lines in

@@ -1,4 +1,4 @@
--- The lines of a section, whatever they are: written one after another they are read, and read they stand as they are written.
+-- The lines of a section, of any sort: if written one after another they are read, and if read they are in the text as written.
 use mathlib.Core.Path.{_≡_, refl, sym, _∙_, ap, ap₂, subst}
 use mathlib.Core.Bool.{Bool, true, _&&_}
 use mathlib.Core.List.{List, [], _∷_, _++_, append-assoc}
@@ -15,7 +15,7 @@ use Rattle.sheets.specs.Form.{lineThen, linesAt}
 use Rattle.sheets.specs.Reading.{linesIn}
 use Rattle.sheets.specs.declared.form.Read.{Read}
 
--- a sort of line: how one is written and read, where the lines before it leave a state, what state it leaves, and when it is right
+-- a sort of line: how one is written and read in the state that the lines before it leave, its next state, and when it is right
 pub record Sort (X : Type 0) : Type 0 where
   pub part : Part
   pub write : ℕ → X → List ℕ
@@ -44,7 +44,7 @@ pub record Stands {X : Type 0} (s : Sort X) (state : ℕ) (text : List ℕ) : Ty
   pub after : lineAt (s .part) state text .next ≡ s .next state (s .read text)
   pub right : s .right state (s .read text) ≡ true
 
--- what lines that are read say of the text
+-- what is known of a text in which lines are read
 pub record AllStand {X : Type 0} (s : Sort X) (k state : ℕ) (text : List ℕ) : Type 0 where
   pub front : Front (writeAll s state (linesIn (s .part) (s .read) k state text)) text
   pub long : linesAt (s .part) k state text .used ≡ length (writeAll s state (linesIn (s .part) (s .read) k state text))
@@ -55,12 +55,12 @@ pub then-some : (n : ℕ) (more : Read) → 1 ≤ n → lineThen n more ≡ reco
 then-some zero more h = absurd (let none : ⊥ = omega arith in none)
 then-some (suc n) more h = refl
 
--- the line stands wherever one is counted
+-- if a line is counted, the first one is right
 pub then-counted : (n : ℕ) (more : Read) (k : ℕ) → lineThen n more .lines ≡ suc k → (1 ≤ n) × (more .lines ≡ k)
 then-counted zero more k h = absurd (let none : ⊥ = omega (arith, h) in none)
 then-counted (suc n) more k h = (omega arith, omega (arith, h))
 
--- a line that stands, and those behind it
+-- a line that is right, and those after it
 one-more : {X : Type 0} (s : Sort X) (k state : ℕ) (text : List ℕ) → 1 ≤ lineAt (s .part) state text .used → Stands s state text → AllStand s k (lineAt (s .part) state text .next) (drop (lineAt (s .part) state text .used) text) → AllStand s (suc k) state text
 one-more s k state text some here more =
     let p = lineAt (s .part) state text in

@@ -1,4 +1,4 @@
--- A text has the form of a sheet just where it is a right sheet, written. What is read in it is that sheet.
+-- A text is a well-formed sheet exactly if it is how a right sheet is written. What is read in it is that sheet.
 use mathlib.Core.Path.{_≡_, refl, sym, _∙_, ap, ap₂, subst}
 use mathlib.Core.Bool.{Bool, true, false, _&&_, false≢true}
 use mathlib.Core.List.{List, [], _∷_, _++_, append-assoc}
@@ -39,12 +39,12 @@ abbrev isRight : Form → Bool
 isRight Right = true
 isRight (Faulty line) = false
 
--- what follows is right only where something stands
+-- if the form is right, then the test was true and the rest is right
 pub stands-right : (t : Bool) (line : ℕ) (rest : Form) → ifStands t line rest ≡ Right → (t ≡ true) × (rest ≡ Right)
 stands-right true line rest h = (refl, h)
 stands-right false line rest h = absurd (false≢true (ap isRight h))
 
--- ---- A section that is written, before other text
+-- ---- A section that is written, with other text after it
 
 record Placed {X : Type 0} (part : Part) (read : List ℕ → X) (w rest : List ℕ) (xs : List X) : Type 0 where
   stands : sectionStands part (w ++ rest) ≡ true
@@ -111,7 +111,7 @@ rounds-again (bids ∷ more) right =
 
 -- ---- Written sheets are read
 
--- a sheet of its parts
+-- a sheet made of its parts
 abbrev made : Kind → ℕ → ℕ → List BidderLine → List PathLine → List (List Bid) → Sheet
 made kind first last bidders paths rounds =
     record { kind = kind; first = first; last = last; bidders = bidders; paths = paths; rounds = rounds }
@@ -122,7 +122,7 @@ made-same {k} {k'} {f} {f'} {l} {l'} {b} {b'} {p} {p'} {r} {r'} ek ef el eb ep e
     ∙ ap₂ (λ (last : ℕ) (bidders : List BidderLine). made k' f' last bidders p r) el eb
     ∙ ap₂ (λ (paths : List PathLine) (rounds : List (List Bid)). made k' f' l' b' paths rounds) ep er
 
--- the sections of a kind, with as many of bids as it has rounds
+-- the sections of a sheet of this kind, with as many sections of bids as it has rounds
 parts-are : (kind : Kind) → partsOf kind ≡ Bidders ∷ Paths ∷ replicate (roundsOf kind) Bids
 parts-are Short = refl
 parts-are Long = refl
@@ -136,7 +136,7 @@ record RightParts (s : Sheet) : Type 0 where
   count : length (s .rounds) ≡ roundsOf (s .kind)
   rounds : every rightSection (s .rounds) ≡ true
 
--- bidders whose numbers rise are few
+-- there are few bidders, since their numbers rise
 bidders-few : (xs : List BidderLine) (least : ℕ) → rightBidders least xs ≡ true → length xs ≤ bidderLimit - least
 bidders-few [] least right = omega arith
 bidders-few (x ∷ xs) least right =
@@ -258,7 +258,7 @@ module _ (s : Sheet) (right : RightParts s) where
       (ap (sectionSays Paths pathAt) at-paths ∙ paths-placed .again)
       (ap₂ roundsAt (ap roundsOf kind ∙ sym (right .count)) at-rounds ∙ rounds-again (s .rounds) (right .rounds))
 
--- every right sheet that is short enough, written, has the form, and what is read in it is that sheet
+-- every right sheet that is short enough is well formed when it is written, and what is read in it is that sheet
 pub written-has-form : (s : Sheet) → rightSheet s ≡ true → length (sheetText s) ≤ sheetBytes → formOf (sheetText s) ≡ Right
 written-has-form s right short =
     let p = right-parts s right in
@@ -270,9 +270,9 @@ written-is-read s right =
     let p = right-parts s right in
     ap sheetIn (text-is s p) ∙ again-whole s p
 
--- ---- What has the form is written so
+-- ---- A well-formed text is how its sheet is written
 
--- a section that stands, and what follows it
+-- a section whose lines are right, and what follows it
 whole-section : {X : Type 0} (s : Sort X) (text : List ℕ) → SectionRead s text → text ≡ sectionText s (sectionSays (s .part) (s .read) text) ++ behindPart (s .part) text
 whole-section s text r =
     r .front ∙ ap (λ (n : ℕ). sectionText s (sectionSays (s .part) (s .read) text) ++ drop n text) (sym (r .long))
@@ -367,7 +367,7 @@ module _ (text : List ℕ) (form : formOf text ≡ Right) where
   pub form-is-short : length text ≤ sheetBytes
   form-is-short = leb-true (length text) sheetBytes (outer .0)
 
-  -- what has the form is a right sheet, written
+  -- a well-formed text is how a right sheet is written
   pub form-is-right : rightSheet (sheetIn text) ≡ true
   unfolding sheetIn
   form-is-right =

@@ -1,4 +1,4 @@
--- The title that is written is read, and one that is read stands in the text as it is written.
+-- A title that is written is read, and one that is read is in the text as it is written.
 use mathlib.Core.Path.{_≡_, refl, sym, _∙_, ap, subst}
 use mathlib.Core.Bool.{Bool, true, false, _&&_, _||_}
 use mathlib.Core.List.{List, [], _∷_, _++_}
@@ -20,7 +20,7 @@ use Rattle.sheets.specs.Form.{kindIn}
 use Rattle.sheets.specs.Reading.{daysIn}
 use Rattle.sheets.proofs.LineLaws.{or-left, starts-read, behind-written, behind-read, two-bytes}
 
--- the title's words, and its days
+-- the part of a title before its days, and its days
 abbrev pub titleHead : Kind → List ℕ
 titleHead kind = spaced titleWord ++ (kindByte kind ∷ space ∷ [])
 

@@ -1,4 +1,4 @@
--- The words of a bid section are those of the bids that it says.
+-- The words of a bid section are those of the bids in it.
 use mathlib.Core.Path.{_≡_, refl, sym, _∙_, ap, ap₂}
 use mathlib.Core.Bool.{Bool, true, false, cond}
 use mathlib.Core.List.{List, [], _∷_, _++_, append-assoc}
@@ -53,7 +53,7 @@ line-numbers k n (m ∷ ns) rest right =
     ∙ one-number (length (m ∷ ns) + k) n space (more ++ rest) (leb-true n wordTop (left-true (fits n) (every fits (m ∷ ns)) right)) refl
     ∙ ap (λ (l : List ℕ). n ∷ l) (line-numbers k m ns rest (right-true (fits n) (every fits (m ∷ ns)) right))
 
--- in all lines of bids
+-- the numbers in all lines of bids
 bids-numbers : (k : ℕ) (bs : List Bid) → every rightBid bs ≡ true → numbersIn (length (encoded bs) + k) (bidLines bs) ≡ encoded bs
 bids-numbers k [] right = numbers-none (0 + k)
 bids-numbers k (b ∷ bs) right =
@@ -65,7 +65,7 @@ bids-numbers k (b ∷ bs) right =
     ∙ line-numbers (length (encoded bs) + k) (b .bidder) tail (bidLines bs) (left-true (rightBid b) (every rightBid bs) right)
     ∙ ap (λ (l : List ℕ). words ++ l) (bids-numbers k bs (right-true (rightBid b) (every rightBid bs) right))
 
--- each number takes a byte and more
+-- each number takes at least one byte
 numbers-bytes : (n : ℕ) (ns : List ℕ) → length (n ∷ ns) ≤ length (numbersText newline (n ∷ ns))
 numbers-bytes n [] = field-some n newline
 numbers-bytes n (m ∷ ns) =
@@ -97,7 +97,7 @@ section-words bids right =
     (ap (λ (n : ℕ). drop n (bidSection bids)) (count-written Bids (length bids) lines few) ∙ drop-append-seam count lines)
     ∙ bids-numbers spare bids (right-true (fits (length bids)) (every rightBid bids) right)
 
--- they are no more than its bytes
+-- a text has no more words than bytes
 numbers-few : (k : ℕ) (text : List ℕ) → length (numbersIn k text) ≤ k
 numbers-few zero text = omega arith
 numbers-few (suc k) [] = omega arith

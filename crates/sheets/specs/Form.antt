@@ -1,5 +1,5 @@
--- Document 01, "The form is tested over the whole sheet first; a form fault prints only "refused 40 line L", the first faulty, missing or
--- extra line (from 1; 0 for too long)": line after line, each where the one before it ends.
+-- Document 01, "The form is tested over the whole sheet first; a form fault prints only "refused 40 line L", the first faulty,
+-- missing or extra line (from 1; 0 for too long)": line by line, each where the one before it ends.
 use mathlib.Core.Path.{_≡_}
 use mathlib.Core.Bool.{Bool, true, false}
 use mathlib.Core.List.{List, [], _∷_}
@@ -19,12 +19,12 @@ use Rattle.sheets.specs.declared.form.Read.{Read}
 
 -- ---- The lines of a section
 
--- a line of so many bytes, 0 where it does not stand, and the lines behind it
+-- a line, by the bytes that it takes, 0 if it is faulty, and the lines after it
 abbrev pub lineThen : ℕ → Read → Read
 lineThen zero more = record { lines = 0; used = 0 }
 lineThen (suc n) more = record { lines = 1 + more .lines; used = suc n + more .used }
 
--- of so many lines, those that stand, one after another up to the first that does not, and the bytes that they take
+-- the lines before the first faulty one, at most as many as the second argument says, and the bytes that they take
 abbrev pub linesAt : Part → ℕ → ℕ → List ℕ → Read
 linesAt part zero state text = record { lines = 0; used = 0 }
 linesAt part (suc k) state text =
@@ -46,12 +46,12 @@ abbrev pub partsOf : Kind → List Part
 partsOf Short = Bidders ∷ Paths ∷ Bids ∷ []
 partsOf Long = Bidders ∷ Paths ∷ Bids ∷ Bids ∷ []
 
--- what follows where something stands, and else the number of the faulty line
+-- the rest of the form if the test is true, and otherwise the number of the faulty line
 abbrev pub ifStands : Bool → ℕ → Form → Form
 ifStands true line rest = rest
 ifStands false line rest = Faulty line
 
--- "the first faulty, missing or extra line", where these sections are still to come and the next line has a number
+-- "the first faulty, missing or extra line", with the sections still to come and the number of the next line
 abbrev pub formFrom : List Part → ℕ → List ℕ → Form
 formFrom [] line text = ifStands (eqb (length text) 0) line Right
 formFrom (part ∷ parts) line text =
@@ -70,12 +70,12 @@ formOf text =
 
 -- ---- Places
 
--- a fact of a text that has the form
+-- a fact that is claimed only of a well-formed text
 abbrev pub IfRight : Form → Type 0 → Type 0
 IfRight Right fact = fact
 IfRight (Faulty line) fact = Unit {0}
 
--- where the sections begin, the first of them at a place; behind the first section of bids stands the second, or the end
+-- the places of the sections, the first of them at `at`; after the first section of bids comes the second, or the end
 pub record PlacesAre (bytes : List ℕ) (at : ℕ) (found : Found) : Type 0 where
   pub bidders : found .bidders ≡ at
   pub paths : found .paths ≡ at + sectionAt Bidders (drop at bytes) .used

@@ -1,4 +1,4 @@
--- What a text in the form of a sheet says, read line after line.
+-- What a well-formed sheet says, read line by line.
 use mathlib.Core.Bool.{Bool, true, false}
 use mathlib.Core.List.{List, [], _∷_, _++_}
 use Prim.Native.Nat.{ℕ, zero, suc, _+_}
@@ -18,7 +18,7 @@ use Rattle.sheets.specs.Sheet.{Sheet, roundsOf}
 
 -- ---- Lines
 
--- so many lines of a section, each read where the one before it ends
+-- the lines of a section, as many as the third argument says, each read where the one before it ends
 abbrev pub linesIn : {X : Type 0} → Part → (List ℕ → X) → ℕ → ℕ → List ℕ → List X
 linesIn part read zero state text = []
 linesIn part read (suc k) state text =
@@ -50,7 +50,7 @@ pathOf way said =
       second = getD said 4 0;
     }
 
--- a path's line behind its number
+-- a path's line after its number
 abbrev pub routeIn : List ℕ → PathLine
 routeIn text = pathOf (directionOf (getD text 0 0)) (numbersSaid wordTop newline 5 (drop 2 text))
 
@@ -73,18 +73,18 @@ bidIn text = bidAt (bidWords text) 0
 
 -- ---- Sections
 
--- what the lines of a section say, behind its count line
+-- what the lines of a section say, after its count line
 abbrev pub sectionSays : {X : Type 0} → Part → (List ℕ → X) → List ℕ → List X
 sectionSays part read text = linesIn part read (countSaid part text) 0 (drop (countUsed part text) text)
 
--- "the part of the sheet that it occupies", and what stands behind it
+-- "the part of the sheet that it occupies", and what comes after it
 abbrev pub partAt : Part → List ℕ → List ℕ
 partAt part text = take (sectionAt part text .used) text
 
 abbrev pub behindPart : Part → List ℕ → List ℕ
 behindPart part text = drop (sectionAt part text .used) text
 
--- so many sections of bids, one behind another
+-- the sections of bids, as many as the first argument says, one after another
 abbrev pub roundsAt : ℕ → List ℕ → List (List Bid)
 roundsAt zero text = []
 roundsAt (suc k) text = sectionSays Bids bidIn text ∷ roundsAt k (behindPart Bids text)

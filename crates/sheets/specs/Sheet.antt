@@ -1,4 +1,4 @@
--- Document 01, "Sheets", by how one is written: what a sheet says, and its bytes.
+-- Document 01, "Sheets": what a sheet says, and how it is written in bytes.
 use mathlib.Core.Bool.{Bool, true, _&&_}
 use mathlib.Core.List.{List, [], _∷_, _++_, map}
 use Prim.Native.Nat.{ℕ, _+_}
@@ -19,8 +19,8 @@ use Rattle.sheets.specs.declared.rows.PathLine.{PathLine}
 
 -- ---- What it says
 
--- "kind, first and last day", the sections, and of bids as many as the kind has rounds; what a line of a bidder or of a path says is
--- declared with the code
+-- "kind, first and last day", the bidders, the paths, and as many sections of bids as the kind has rounds; the records of a
+-- bidder's and of a path's line are declared with the code
 pub record Sheet : Type 0 where
   pub kind : Kind
   pub first : ℕ
@@ -94,7 +94,7 @@ fits n = leb n wordTop
 abbrev pub fitsAmount : ℕ → Bool
 fitsAmount n = leb n amountTop
 
--- "numbers strictly rising", each at least so much and "0 to 31"
+-- "numbers strictly rising", each at least `least` and "0 to 31"
 abbrev pub rightBidders : ℕ → List BidderLine → Bool
 rightBidders least [] = true
 rightBidders least (x ∷ xs) =
@@ -107,7 +107,7 @@ rightPath p = fits (p .zone) && fits (p .base) && fits (p .upper) && fits (p .fi
 abbrev pub rightBid : Bid → Bool
 rightBid b = every fits (bidEncoded b)
 
--- a section, whose count is a number too
+-- a section: its count is a number too, and must fit
 abbrev pub rightSection : List Bid → Bool
 rightSection bids = fits (length bids) && every rightBid bids
 

@@ -1,4 +1,4 @@
--- Lines in slots: as many slots as there can be lines, the first of them filled.
+-- Lines in slots: the first slots hold the lines, and the others are empty.
 use mathlib.Core.List.{List, _++_}
 use Prim.Native.Nat.{ℕ, _-_}
 use lib.ListN.{length, take, replicate}
@@ -9,7 +9,7 @@ use Rattle.sheets.specs.declared.rows.BidderRows.{BidderRows}
 use Rattle.sheets.specs.declared.rows.PathLine.{PathLine}
 use Rattle.sheets.specs.declared.rows.PathRows.{PathRows}
 
--- the first so many of a list, and past its end what stands for none
+-- the first `slots` elements of a list, and after its end what represents an empty slot
 abbrev pub filled : {X : Type 0} → ℕ → X → List X → List X
 filled slots none xs = take slots xs ++ replicate (slots - length xs) none
 

@@ -1,4 +1,4 @@
--- The words that a round takes, out of a bid section: "bids as above", so the numbers of its lines in their order.
+-- The words that a round takes, read from a bid section: "bids as above", so they are the numbers of its lines in their order.
 use mathlib.Core.Bool.{cond}
 use mathlib.Core.List.{List, [], _∷_}
 use Prim.Native.Nat.{ℕ, zero, suc, _+_}
@@ -9,17 +9,17 @@ use Rattle.fields.specs.Fields.{wordTop}
 use Rattle.lines.specs.Lines.{countUsed}
 use Rattle.lines.specs.declared.part.Part.the-variants.{Bids}
 
--- a number as a word; right in form it "fits 32 bits"
+-- a number as a word; in a well-formed sheet it "fits 32 bits"
 abbrev pub wordOf : ℕ → ℕ
 wordOf n = cond (leb n wordTop) n 0
 
--- the numbers of a text, at most so many, each with the byte that ends it
+-- the numbers of a text, at most as many as the first argument says, each with the byte that ends it
 abbrev pub numbersIn : ℕ → List ℕ → List ℕ
 numbersIn zero text = []
 numbersIn (suc k) [] = []
 numbersIn (suc k) (c ∷ cs) =
     wordOf (numberAt (c ∷ cs) .value) ∷ numbersIn k (drop (numberAt (c ∷ cs) .digits + 1) (c ∷ cs))
 
--- "Its count line belongs to it": the words behind it; a text has no more numbers than bytes
+-- "Its count line belongs to it": the words are those after the count line; a text has no more numbers than bytes
 abbrev pub wordsOf : List ℕ → List ℕ
 wordsOf section = numbersIn (length section) (drop (countUsed Bids section) section)

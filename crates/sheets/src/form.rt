@@ -1,4 +1,4 @@
-// The form of a sheet, line after line.
+// The form of a sheet, tested line by line.
 use lines::part::Part;
 use market::book::Kind;
 use market::engine::Engine;
@@ -12,19 +12,19 @@ ghost use Rattle.lines.specs.declared.part.Part.the-variants.{Bids};
 ghost use Rattle.sheets.specs.Form as rules;
 ghost use Rattle.sheets.specs.Sheet.{roundsOf};
 
-// Whether a text has the form of a sheet; if not, the first faulty line, from 1, or 0 for a text that is too long.
+// Whether a text is a well-formed sheet; if not, the first faulty line, from 1, or 0 for a text that is too long.
 pub enum Form {
     Right,
     Faulty(u32),
 }
 
-// Lines that stand one after another, and the bytes that they take.
+// How many lines were read, one after another, and the bytes that they take.
 pub struct Read {
     pub lines: usize,
     pub used: usize,
 }
 
-// Of so many lines of a section, those that stand one after another from a place on.
+// Of `count` lines of a section that should follow from a place on, those before the first faulty one.
 fn lines_from(part: Part, bytes: &[u8], at: usize, count: u64) -> Read
     requires { ⌜ at ≤ length (now bytes) ⌝ }
     requires { ⌜ length (now bytes) ≤ sheetBytes ⌝ }
@@ -49,7 +49,7 @@ fn lines_from(part: Part, bytes: &[u8], at: usize, count: u64) -> Read
     Read { lines, used }
 }
 
-// A section that was read: whether all its lines stand, how many do, its count line with them, and the bytes that they take.
+// A section that was read: whether all its lines are right, how many are, with its count line, and the bytes that these take.
 pub struct Section {
     pub stands: bool,
     pub lines: usize,
@@ -82,7 +82,7 @@ fn section_at(part: Part, bytes: &[u8], at: usize) -> Section
     }
 }
 
-// The end of the sheet: a line that stands here is one too many.
+// The end of the sheet: a line here is one too many.
 fn end_form(bytes: &[u8], at: usize, line: u32) -> Form
     requires { ⌜ at ≤ length (now bytes) ⌝ }
     ensures { λ r. ⌜ r ≡ rules.formFrom [] line (drop at (now (bytes .entry))) ⌝ }
@@ -93,7 +93,7 @@ fn end_form(bytes: &[u8], at: usize, line: u32) -> Form
     Form::Faulty(line)
 }
 
-// The last section of bids, and the end behind it.
+// The last section of bids, and the end after it.
 fn last_round(bytes: &[u8], at: usize, line: u32) -> Form
     requires { ⌜ at ≤ length (now bytes) ⌝ }
     requires { ⌜ length (now bytes) ≤ sheetBytes ⌝ }
@@ -108,13 +108,13 @@ fn last_round(bytes: &[u8], at: usize, line: u32) -> Form
     end_form(bytes, at + section.used, next)
 }
 
-// What was found from the first section of bids on: the form, and where the second section, or the end, stands.
+// What was found from the first section of bids on: the form, and the place of the second section, or of the end.
 pub struct Rounds {
     pub form: Form,
     pub second: usize,
 }
 
-// The sections of bids, one for a short auction and two for a long one, and the end behind them.
+// The sections of bids, one for a short auction and two for a long one, and the end after them.
 fn rounds_form(kind: Kind, bytes: &[u8], at: usize, line: u32) -> Rounds
     requires { ⌜ at ≤ length (now bytes) ⌝ }
     requires { ⌜ length (now bytes) ≤ sheetBytes ⌝ }
@@ -139,8 +139,8 @@ fn rounds_form(kind: Kind, bytes: &[u8], at: usize, line: u32) -> Rounds
     Rounds { form, second }
 }
 
-// What was found of a sheet: its form and, where that is right, the places at which its sections begin. Behind the first section of
-// bids stands the second, or the end.
+// What was found of a sheet: its form and, if that is right, the places at which its sections begin. After the first section of
+// bids comes the second, or the end.
 pub struct Found {
     pub form: Form,
     pub bidders: usize,

@@ -9,7 +9,7 @@ pub struct BidderLine {
     pub letter: u64,
 }
 
-// A path's line, behind its number: direction, zone, base, FUL, A and B.
+// A path's line, after its number: direction, zone, base, FUL, A and B.
 pub struct PathLine {
     pub direction: Direction,
     pub zone: u32,
@@ -19,13 +19,13 @@ pub struct PathLine {
     pub second: u32,
 }
 
-// The bidders' lines of a sheet, in as many slots as there are bidders, and how many they are.
+// The bidders' lines of a sheet, in as many slots as a book has bidders, and how many lines there are.
 pub struct BidderRows {
     pub count: usize,
     pub lines: [BidderLine; Engine::BIDDERS],
 }
 
-// The first paths' lines of a sheet, in as many slots as a book has, and how many lines there are in all.
+// The first paths' lines of a sheet, in as many slots as a book has paths, and how many lines there are in all.
 pub struct PathRows {
     pub count: usize,
     pub lines: [PathLine; Engine::PATHS],

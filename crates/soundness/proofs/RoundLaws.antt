@@ -16,7 +16,7 @@ module _ (x : Bidder) where
   abbrev inSecond : ℕ → Bool
   inSecond round = eqb round 2 implies leb (x .owed .0) roundTwoOwedLimit
 
-  -- the bounds besides, where it is known whether cash and applied are within theirs
+  -- all the bounds, where `held` says whether cash and applied are within theirs
   abbrev pub boundsWith : Bool → Bool
   boundsWith held =
       held

@@ -84,7 +84,7 @@ fn sound_paths(round: u32, paths: [Path; Engine::PATHS], count: usize) -> bool
     true
 }
 
-// What the next round asks of a bidder besides.
+// Whether a bidder meets what the next round asks in addition to the fixed bounds.
 fn fits_round(round: u32, bidder: Bidder) -> bool
     ensures { λ r. ⌜ r ≡ ((eqb round 1 implies noValue bidder) && (eqb round 2 implies leb (bidder .owed .0) roundTwoOwedLimit)) ⌝ }
 {

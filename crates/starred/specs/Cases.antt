@@ -1,5 +1,5 @@
--- Document 01, "The starred cases are proved about the rules themselves, as rows under one theorem." Each case is a list of calls that
--- the rules take from a fresh book, and what they then say.
+-- Document 01, "The starred cases are proved about the rules themselves, as rows under one theorem." Each case is a list of
+-- calls that the rules take from a fresh book, and what they then say.
 use mathlib.Core.Path.{_≡_}
 use mathlib.Core.Bool.{false}
 use mathlib.Core.List.{List, [], _∷_, _++_, map}
@@ -99,7 +99,7 @@ lastly read none (m ∷ ms) = lastly read (read m) ms
 abbrev pub answer : Made → Answer
 answer m = m .reply .answer
 
--- "each 1 admitted or 0 over, bid value, MW, charge": of so many bids
+-- "each 1 admitted or 0 over, bid value, MW, charge": of the first `bids` bids
 abbrev pub bidWords : ℕ → Made → List ℕ
 bidWords bids m = take (bids * bidAnswerSize) (m .reply .answers)
 
@@ -107,7 +107,7 @@ bidWords bids m = take (bids * bidAnswerSize) (m .reply .answers)
 abbrev pub pathWords : Made → List ℕ
 pathWords m = take (m .book .«path_count» * pathAnswerSize) (m .reply .results)
 
--- the first so many amounts or shares
+-- the first `n` amounts or shares
 abbrev pub amounts : ℕ → Made → List ℕ
 amounts n m = take n (m .reply .amounts)
 
@@ -153,7 +153,7 @@ sheetCalls =
 abbrev pub sheet : List Made
 sheet = run (exportPath ∷ []) sheetCalls
 
--- "L offer 203": floor(812/4). The first round's one bid takes so many MW, the second round has none.
+-- "L offer 203": floor(812/4). The first round's one bid takes `sold` MW, and the second round has no bid.
 abbrev pub longSelling : ℕ → List Made
 longSelling sold =
     run (exportPath ∷ [])
@@ -223,7 +223,7 @@ shared total =
           (column (0 ∷ 0 ∷ 5 ∷ []));
     }
 
--- "D 1,000": the account has just so much above what "Disburse leaves"
+-- "D 1,000": the account has exactly 1,000 above what "Disburse leaves"
 abbrev pub disbursing : List Made
 disbursing = run (exportPath ∷ []) (plain (Rent (cents (reserve + 1000))) ∷ shared 1000 ∷ [])
 

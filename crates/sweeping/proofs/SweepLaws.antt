@@ -1,4 +1,4 @@
--- Laws about bidders taken one by one.
+-- Laws about bidders billed one by one.
 use mathlib.Core.Path.{_≡_, ap}
 use mathlib.Core.List.{List}
 use Prim.Native.Nat.{ℕ, suc, _+_}

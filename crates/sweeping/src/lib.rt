@@ -1,4 +1,4 @@
-// The bidders after a round, with its charges.
+// The bidders after a round, billed with its charges.
 use market::book::Bidder;
 use market::engine::Engine;
 use market::units::Cents;
@@ -19,7 +19,7 @@ fn least(a: u64, b: u64) -> u64
     b
 }
 
-// A bidder with its charges of the round.
+// A bidder billed with its charges of the round.
 fn sweep(bidder: Bidder, charges: u64) -> Bidder
     requires { ⌜ BidderBounds bidder ⌝ }
     requires { ⌜ withinCharges charges ≡ true ⌝ }
@@ -42,7 +42,7 @@ fn sweep(bidder: Bidder, charges: u64) -> Bidder
     }
 }
 
-// All bidders, bidding or not, with their charges.
+// All bidders billed with their charges, whether they bid or not.
 pub fn sweep_all(
     bidders: [Bidder; Engine::BIDDERS],
     charges: [u64; Engine::BIDDERS],

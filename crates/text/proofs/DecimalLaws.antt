@@ -1,4 +1,4 @@
--- Laws about numbers as text: what is written reads as the same number, and what reads as a number is written so.
+-- Laws about numbers as text: a number that is written reads as the same number, and what reads as a number is how it is written.
 use mathlib.Core.Path.{_≡_, refl, sym, _∙_, ap, ap₂, subst}
 use mathlib.Core.Bool.{Bool, true, false, cond, not, _&&_, false≢true}
 use mathlib.Core.List.{List, [], _∷_, _++_}
@@ -18,7 +18,7 @@ use Rattle.text.specs.declared.Number.{Number}
 
 -- ---- A number, digit by digit
 
--- what holds of a number of one digit, and of a longer one where it holds of its tenth, holds of every number
+-- a property that numbers of one digit have, and longer ones have if their tenth has it, is a property of every number
 module _ (P : ℕ → List ℕ → Type 0) (small : (n : ℕ) → n < 10 → P n ((zeroByte + n) ∷ [])) (more : (n : ℕ) (ds : List ℕ) → 10 ≤ n → P (n / 10) ds → P n (ds ++ ((zeroByte + n % 10) ∷ []))) where
   by-digits : (k n : ℕ) → n < 10 ^ suc k → P n (decimalTo (suc k) n)
   by-digits zero n h =
@@ -34,7 +34,7 @@ module _ (P : ℕ → List ℕ → Type 0) (small : (n : ℕ) → n < 10 → P n
   unfolding decimal
   of-decimal n h = by-digits 19 n h
 
--- room for one digit more changes nothing
+-- room for one more digit changes nothing
 same-digits : (k n : ℕ) → n < 10 ^ suc k → decimalTo (suc (suc k)) n ≡ decimalTo (suc k) n
 same-digits zero n h = rw (lt-ltb n 10 (omega arith))
 same-digits (suc k) n h =
@@ -80,14 +80,14 @@ pub decimal-digits : (n : ℕ) → every isDigit (decimal n) ≡ true
 unfolding decimal
 decimal-digits n = digits-to 20 n
 
--- digits are read up to the first byte that is none
+-- digits are read up to the first byte that is not a digit
 pub digits-front : (ds rest : List ℕ) (c : ℕ) → every isDigit ds ≡ true → isDigit c ≡ false → digitsIn (ds ++ (c ∷ rest)) ≡ ds
 digits-front [] rest c h e = ap (λ (t : Bool). cond t (c ∷ digitsIn rest) []) e
 digits-front (d ∷ ds) rest c h e =
     ap (λ (t : Bool). cond t (d ∷ digitsIn (ds ++ (c ∷ rest))) []) (left-true (isDigit d) (every isDigit ds) h)
     ∙ ap (λ (l : List ℕ). d ∷ l) (digits-front ds rest c (right-true (isDigit d) (every isDigit ds) h) e)
 
--- or to the end
+-- or up to the end
 pub digits-whole : (ds : List ℕ) → every isDigit ds ≡ true → digitsIn ds ≡ ds
 digits-whole [] h = refl
 digits-whole (d ∷ ds) h =
@@ -160,7 +160,7 @@ value-within k ds h few =
 pub value-bound : (ds : List ℕ) → every isDigit ds ≡ true → length ds ≤ 13 → valueFrom 0 ds < 10 ^ 13
 value-bound ds h few = value-within 13 ds h few
 
--- what is written says the number
+-- the digits that are written have the value of the number
 pub decimal-value : (n : ℕ) → n < 10 ^ 20 → valueFrom 0 (decimal n) ≡ n
 decimal-value n h =
     of-decimal (λ (n : ℕ) (ds : List ℕ). valueFrom 0 ds ≡ n) (λ n below. omega arith)
@@ -208,7 +208,7 @@ pub decimal-plain : (n : ℕ) → n < 10 ^ 20 → plain (decimal n) ≡ true
 decimal-plain zero h = ap plain (decimal-one zero (omega arith))
 decimal-plain (suc n) h = leads-plain (decimal (suc n)) (decimal-leads (suc n) h (omega arith))
 
--- digits without leading zeros are the number that they say, written
+-- digits without leading zeros are how their value is written
 from-end : (k : ℕ) (ds : List ℕ) → length ds ≡ suc k → suc k ≤ 20 → every isDigit ds ≡ true → plain ds ≡ true → decimal (valueFrom 0 ds) ≡ ds
 from-end zero [] long few digits h = absurd (let short : ⊥ = omega arith in short)
 from-end zero (c ∷ []) long few digits h =
@@ -254,7 +254,7 @@ right-number ds e = ap (shown ds) e
 pub wrong-number : (ds : List ℕ) → rightDigits ds ≡ false → numberOf ds ≡ record { value = 0; digits = 0 }
 wrong-number ds e = ap (shown ds) e
 
--- a number that was written is read, where no digit follows
+-- a number that was written is read, if no digit follows it
 pub number-written : (n c : ℕ) (rest : List ℕ) → n < 10 ^ 13 → isDigit c ≡ false → numberAt (decimal n ++ (c ∷ rest)) ≡ record { value = n; digits = length (decimal n) }
 number-written n c rest h e =
     let few : length (decimal n) ≤ 13 = decimal-length 13 n (omega arith) (omega arith) h in
@@ -263,7 +263,7 @@ number-written n c rest h e =
     ∙ right-number (decimal n) right
     ∙ ap (λ (v : ℕ). record { value = v; digits = length (decimal n) }) (decimal-value n (omega arith))
 
--- and a number that is read is the text that it is written as
+-- and a number that is read is in the text as it is written
 record NumberRead (text : List ℕ) (r : Number) : Type 0 where
   below : r .value < 10 ^ 13
   long : r .digits ≡ length (decimal (r .value))

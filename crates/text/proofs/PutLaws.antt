@@ -10,15 +10,15 @@ use Rattle.text.specs.Decimal.{zeroByte, decimal, decimalDigits}
 use Rattle.text.specs.Put.{putAt}
 use Rattle.text.proofs.DecimalLaws.{decimal-one, decimal-more, decimal-some, decimal-length}
 
--- bytes put where there is room leave the list as long as it was
+-- bytes put where there is room do not change the length of the list
 pub put-length : (out : List ℕ) (at : ℕ) (bytes : List ℕ) → at + length bytes ≤ length out → length (putAt out at bytes) ≡ length out
 put-length out at bytes room = simp (length-append, length-take, length-drop) (omega arith)
 
--- nothing put changes nothing
+-- to put no bytes changes nothing
 pub put-none : (out : List ℕ) (at : ℕ) → putAt out at [] ≡ out
 put-none out at = sym (paste-zero out at [])
 
--- a byte set before those that were put is put with them
+-- a byte set directly before those that were put counts as put with them
 pub put-before : (out : List ℕ) (i b : ℕ) (bytes : List ℕ) → i + 1 + length bytes ≤ length out → set (putAt out (i + 1) bytes) i b ≡ putAt out i (b ∷ bytes)
 put-before out i b bytes room =
     let was = getD out i 0 in
@@ -33,7 +33,7 @@ put-before out i b bytes room =
     ∙ sym (append-assoc (take i out) (b ∷ bytes) rest)
     ∙ ap (λ (k : ℕ). take i out ++ (b ∷ bytes) ++ drop k out) same
 
--- a number put from its last digit on: `left` is what is left to put, and `i` the place of its last digit
+-- a number put from its last digit to its first: `left` is what is left to put, and `i` is the place of its last digit
 pub record PutTo (before : List ℕ) (at n left i : ℕ) (out : List ℕ) : Type 0 where
   pub back : List ℕ
   pub fewer : left ≤ n
@@ -90,7 +90,7 @@ module _ (before : List ℕ) (at n : ℕ) (small : n < 10 ^ 20) (room : at + len
         ∙ ap₂ (λ (k : ℕ) (l : List ℕ). putAt before k l) same
         (sym (to .whole ∙ ap (λ (l : List ℕ). l ++ to .back) e))
 
--- a number's digits counted from the last one: `left` is what is left to count
+-- the digits of a number counted from the last one: `left` is what is left to count
 pub record DigitsTo (n left digits : ℕ) : Type 0 where
   pub fewer : left ≤ n
   pub count : length (decimal n) + 1 ≡ digits + length (decimal left)
@@ -110,7 +110,7 @@ module _ (n left digits : ℕ) (small : n < 10 ^ 20) (to : DigitsTo n left digit
   pub digits-few : digits ≤ decimalDigits
   digits-few = omega (arith, to .count, decimal-some left, decimal-length 20 n (omega arith) (omega arith) small)
 
--- bytes copied from their first one on
+-- bytes copied one by one, from the first
 module _ (before : List ℕ) (at : ℕ) (bytes : List ℕ) (room : at + length bytes ≤ length before) (i : ℕ) where
   pub copy-one : i < length bytes → set (paste before at bytes i) (at + i) (getD bytes i 0) ≡ paste before at bytes (i + 1)
   copy-one h = paste-suc before at bytes i 0 (omega arith) h ∙ ap (paste before at bytes) (sym (add-one i))

@@ -23,7 +23,7 @@ pub above-digits : (c : ℕ) → zeroByte + 9 < c → isDigit c ≡ false
 above-digits c h =
     ap (λ (t : Bool). leb zeroByte c && t) (lt-leb c (zeroByte + 9) h) ∙ and-false (leb zeroByte c)
 
--- the digits at a place: the first of them, and those behind it
+-- the digits at a place: the first of them, and those after it
 module _ (text : List ℕ) (i : ℕ) where
   abbrev pub digitsFrom : List ℕ
   digitsFrom = digitsIn (drop i text)
@@ -82,7 +82,7 @@ module _ (text : List ℕ) (at : ℕ) where
     pub counted-all : digitsFrom text i ≡ [] → i - at ≡ length (digitsFrom text at)
     counted-all e = omega (arith, ap length e)
 
--- what the digits at a place say, added up before the digit `i`
+-- the value of the digits at a place, computed up to the digit `i`
 module _ (text : List ℕ) (at : ℕ) where
   pub record ValueTo (i value : ℕ) : Type 0 where
     pub count : length (digitsFrom text at) ≡ i + length (digitsFrom text (at + i))
@@ -124,7 +124,7 @@ module _ (text : List ℕ) (at : ℕ) where
         nothing [] e = refl
         nothing (d ∷ ds) e = absurd (let none : ⊥ = omega arith in none)
 
--- which digits are a number
+-- which digits are a number, and which are not
 none-wrong : (ds : List ℕ) → length ds ≡ 0 → rightDigits ds ≡ false
 none-wrong [] e = refl
 none-wrong (d ∷ ds) e = absurd (let none : ⊥ = omega arith in none)
@@ -150,7 +150,7 @@ module _ (c : ℕ) where
   other-right ds more few other =
       ap₂ _&&_ (first-decides ds more ∙ ap not (ne-eqb c zeroByte other)) (le-leb (length (c ∷ ds)) digitLimit few)
 
--- the number at a place, by how many digits are there
+-- the number at a place, by how many digits there are
 module _ (text : List ℕ) (at digits : ℕ) (counted : digits ≡ length (digitsFrom text at)) where
   abbrev ds : List ℕ
   ds = digitsFrom text at

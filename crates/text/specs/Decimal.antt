@@ -16,7 +16,7 @@ isDigit c = leb zeroByte c && leb c (zeroByte + 9)
 
 -- ---- Writing
 
--- "decimal without leading zeros", of a number that has at most so many digits
+-- "decimal without leading zeros", of a number that has at most as many digits as the first argument says
 abbrev pub decimalTo : ℕ → ℕ → List ℕ
 decimalTo zero n = []
 decimalTo (suc k) n = cond (ltb n 10) ((zeroByte + n) ∷ []) (decimalTo k (n / 10) ++ ((zeroByte + n % 10) ∷ []))
@@ -35,7 +35,7 @@ abbrev pub digitsIn : List ℕ → List ℕ
 digitsIn [] = []
 digitsIn (c ∷ cs) = cond (isDigit c) (c ∷ digitsIn cs) []
 
--- the number that digits say, behind one that was read before them
+-- the value of digits that follow a number which was already read
 abbrev pub valueFrom : ℕ → List ℕ → ℕ
 valueFrom n [] = n
 valueFrom n (c ∷ cs) = valueFrom (n * 10 + (c - zeroByte)) cs
@@ -50,7 +50,7 @@ plain (c ∷ d ∷ ds) = not (eqb c zeroByte)
 abbrev pub rightDigits : List ℕ → Bool
 rightDigits ds = plain ds && leb (length ds) digitLimit
 
--- the number at the front of a text, and how many digits it has; 0 digits where there is none
+-- the number at the front of a text, and how many digits it has: 0 digits if there is none
 abbrev pub numberOf : List ℕ → Number
 numberOf ds =
     record { value = cond (rightDigits ds) (valueFrom 0 ds) 0; digits = cond (rightDigits ds) (length ds) 0 }

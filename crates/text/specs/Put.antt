@@ -1,4 +1,4 @@
--- Bytes put into a list at a place: those before and behind them stay.
+-- Bytes put into a list at a place: those before and after them stay as they were.
 use mathlib.Core.List.{List, _++_}
 use Prim.Native.Nat.{ℕ, _+_}
 use lib.ListN.{length, take, drop}

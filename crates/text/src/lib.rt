@@ -7,7 +7,7 @@ ghost use Rattle.market.specs.Limits.{digitLimit};
 ghost use Rattle.text.specs.Decimal.{decimal, digitsIn, numberAt, valueFrom};
 ghost use Rattle.text.specs.Put.{putAt};
 
-// A number that was read, and how many digits it has; 0 digits where there is no number.
+// A number that was read, and how many digits it has: 0 digits if there is no number.
 pub struct Number {
     pub value: u64,
     pub digits: usize,
@@ -18,7 +18,7 @@ const ZERO: u8 = 48;
 
 const NINE: u8 = 57;
 
-// How many digits stand at a place of a text.
+// How many digits there are at a place of a text.
 fn digits_at(text: &[u8], at: usize) -> usize
     ensures { λ r. ⌜ r ≡ length (digitsIn (drop at (now (text .entry)))) ⌝ }
 {
@@ -36,7 +36,7 @@ fn digits_at(text: &[u8], at: usize) -> usize
     i - at
 }
 
-// What the digits at a place of a text say, where they are few enough to be a number.
+// The value of the digits at a place of a text, which are few enough to be a number.
 fn value_at(text: &[u8], at: usize, digits: usize) -> u64
     requires { ⌜ digits ≡ length (digitsIn (drop at (now text))) ⌝ }
     requires { ⌜ digits ≤ digitLimit ⌝ }
@@ -89,7 +89,7 @@ fn digits_of(n: u64) -> usize
     digits
 }
 
-// A number in decimal, put into the buffer at a place; the place behind it.
+// Writes a number in decimal into the buffer at a place, and returns the place after it.
 pub fn put_number(out: &mut [u8], at: usize, n: u64) -> usize
     requires { ⌜ at + length (decimal n) ≤ length (now out) ⌝ }
     ensures place { λ r. ⌜ r ≡ at + length (decimal n) ⌝ }
@@ -107,7 +107,7 @@ pub fn put_number(out: &mut [u8], at: usize, n: u64) -> usize
     end
 }
 
-// Bytes as they stand, put into the buffer at a place; the place behind them.
+// Writes bytes as they are into the buffer at a place, and returns the place after them.
 pub fn put_bytes(out: &mut [u8], at: usize, bytes: &[u8]) -> usize
     requires { ⌜ at + length (now bytes) ≤ length (now out) ⌝ }
     ensures place { λ r. ⌜ r ≡ at + length (now (bytes .entry)) ⌝ }

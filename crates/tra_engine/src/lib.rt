@@ -1,4 +1,5 @@
-// The engine as a static library for C and Rust programs. Each function may be called with anything: none requires anything of its arguments.
+// The engine as a static library for C and Rust programs. Each function may be called with any arguments: none has a requirement
+// on them.
 use book_words::BOOK_WORDS;
 use desk::Reply;
 use market::answer::Refusal;
@@ -29,7 +30,8 @@ pub extern "C" fn tra_rules() -> u32
     Engine::RULES
 }
 
-// The output of a sheet, to the front of the buffer, and the count of its bytes to `used`; or the refusal of a short buffer, with all as it was.
+// The output of a sheet, written to the front of the buffer, and the count of its bytes, written to `used`; or the refusal of a
+// short buffer, with all as it was.
 #[no_mangle]
 pub extern "C" fn tra_sheet(sheet: &[u8], out: &mut [u8], used: &mut usize) -> u32
     ensures number { λ r. ⌜ r ≡ rules.replyNumber (answerTo (now (sheet .entry)) (now (out .entry))) ⌝ }
@@ -46,7 +48,7 @@ pub extern "C" fn tra_sheet(sheet: &[u8], out: &mut [u8], used: &mut usize) -> u
     }
 }
 
-// A line as it is taken: a longer one than a line may be as the empty one.
+// A line as it is taken: one that is too long is taken as the empty one.
 fn taken(line: &[u8]) -> &[u8]
     ensures { λ r. ⌜ now r ≡ kept.taken (now (line .entry)) ⌝ }
 {
@@ -65,9 +67,10 @@ fn short(book: &[u64], register: &[u32], room: &[u32], out: &[u8]) -> bool
             | ((room.len() < WORD_ROOM) | (out.len() < REPLY_ROOM)))
 }
 
-// One line of a journal, without its byte 10, on the state that the program keeps: the book's words, the account and the register. What is printed
-// behind it goes to the front of `out`, and the count of its bytes to `used`. Refused with 1 where a buffer is short and with 2 where no book is laid
-// in the words, with all as it was. After a line that is answered the words hold the journal's state.
+// One line of a journal, without its byte 10, on the state that the program keeps: the book's words, the account and the
+// register. The reply goes to the front of `out`, and the count of its bytes to `used`. The line is refused with 1 where a buffer
+// is short and with 2 where the words encode no book, with all as it was. After a line that is answered the words hold the
+// journal's state.
 #[no_mangle]
 pub extern "C" fn tra_line(
     book: &mut [u64],

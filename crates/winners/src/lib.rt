@@ -13,7 +13,7 @@ ghost use Rattle.bids.proofs.Walk.{soundList};
 ghost use Rattle.bids.specs.Bids.{bidsOf};
 ghost use Rattle.awarding.specs.Tables.{wonTable, winnersIn};
 
-// How many of the first bids won any MW.
+// How many of the first `count` bids won any MW.
 fn winners(won: [u32; Engine::BIDS], count: usize) -> usize
     requires { ⌜ count ≤ bidLimit ⌝ }
     ensures { λ r. ⌜ r ≡ winnersIn won count ⌝ }
@@ -34,8 +34,8 @@ fn counted(won: u32) -> usize
     0
 }
 
-// How many bids would win, worked out without the lent scratch: a round asks this where its winners may not fit the register, before
-// it touches anything that is lent.
+// How many bids would win, worked out without the lent scratch: a round asks this where its winners may not fit the register,
+// before it touches anything that is lent.
 fn winners_of(words: &[u32], marks: &[u32], count: usize, offered: [u32; Engine::PATHS]) -> usize
     requires { ⌜ length (now words) ≤ bidListWords ⌝ }
     requires { ⌜ soundList pathLimit (now words) ≡ true ⌝ }
@@ -51,8 +51,8 @@ fn winners_of(words: &[u32], marks: &[u32], count: usize, offered: [u32; Engine:
     winners(won, count)
 }
 
-// Whether a register with so many entries has room for the winners. Where it has room for all bids it has; else they are counted,
-// before anything that is lent is touched.
+// Whether a register with `entries` entries has room for the winners. Room for all bids is enough; otherwise the winners are
+// counted, before anything that is lent is touched.
 pub fn has_room(
     entries: usize,
     words: &[u32],

@@ -29,7 +29,7 @@ written-over words es more =
     ∙ drop-drop m n words
     ∙ ap (λ (k : ℕ). drop k words) both)
 
--- entries added to those counted, where these are what has been written
+-- entries added after the counted ones, where the counted ones are those that were written
 added-over : (words now : List ℕ) (es more : List Entry) (count : ℕ) → now ≡ written words es → count ≡ length es → written now (entriesOf now count ++ more) ≡ written words (es ++ more)
 added-over words now es more count is many =
     ap₂ (λ (l : List ℕ) (n : ℕ). written l (entriesOf l n ++ more)) is many
@@ -47,7 +47,7 @@ won-none e is = ap (λ (t : Bool). cond t (e ∷ []) []) (le-ltb 0 (e .quantity 
 pub won-some : (e : Entry) → (e .quantity .0 ≡ 0 → ⊥) → ifWon e ≡ e ∷ []
 won-some e some = ap (λ (t : Bool). cond t (e ∷ []) []) (lt-ltb 0 (e .quantity .0) (omega (arith, some)))
 
--- the entries of the first `k` bids are added, and those of the rest are to come
+-- the entries of the first `k` bids are added, and those of the rest are still to come
 pub record AddedTo (words won : List ℕ) (period : Period) (before : List ℕ) (counted : ℕ) (register : List ℕ) (count k at : ℕ) : Type 0 where
   pub walk : Walk pathLimit words k at
   pub added : List Entry

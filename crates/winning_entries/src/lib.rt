@@ -14,7 +14,7 @@ ghost use Rattle.bids.specs.Bids.{bidsOf};
 ghost use Rattle.register.specs.Words.{entriesOf, written};
 ghost use Rattle.clearing.specs.Clearing.{ifWon, newEntries};
 
-// An entry is added behind the counted ones where it has any MW. Returns the count.
+// Adds an entry after the counted ones if it has any MW. Returns the new count.
 fn add_if_won(register: &mut [u32], count: usize, entry: Entry) -> usize
     requires { ⌜ (count + length (ifWon entry)) * entryWords ≤ length (now register) ⌝ }
     ensures count { λ r. ⌜ r ≡ count + length (ifWon entry) ⌝ }
@@ -28,7 +28,7 @@ fn add_if_won(register: &mut [u32], count: usize, entry: Entry) -> usize
     count + 1
 }
 
-// The entries of the bids that won are added, in bid order. Returns the count.
+// Adds the entries of the bids that won, in bid order. Returns the new count.
 pub fn add_entries(
     words: &[u32],
     won: &[u32],

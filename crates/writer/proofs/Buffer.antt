@@ -1,7 +1,7 @@
--- The output buffer, held for a lifetime κ, is lent on for a shorter one ν and comes back with what was written in it.
---     OnLoan      what its holder has meanwhile
---     lent-on     the buffer at κ gives it at ν, under a name δ of its own
---     returned    once ν is over, the buffer is at κ again, with the bytes that it had last under δ
+-- The output buffer, held for a lifetime κ, is lent for a shorter one ν and comes back with what was written in it.
+--     OnLoan      what the holder of the buffer has meanwhile
+--     lent-on     from the buffer at κ one has it at ν, under a name δ of its own
+--     returned    when ν is over, the buffer is at κ again, with the bytes that it last had under δ
 use mathlib.Core.Path.{_≡_, sym, ap, subst}
 use Prim.Native.Nat.{ℕ}
 use mathlib.Core.List.{List, [], _∷_}
@@ -24,7 +24,7 @@ use denote.Slice.{sliceVal, MutSlice, heres, Room, finally, at-slice, codedHoley
 use denote.Lend.{Held, lends-slice, slice-back}
 use denote.Index.{row, whole-out, whole-in, opens-slice, closes-slice}
 
--- where the buffer lies, and how long it is
+-- where the buffer is in memory, and how long it is
 abbrev pub spot : RefT (List ℕ) → List Val
 spot x = sliceVal (x .ptr) (length (x .now)) ∷ []
 

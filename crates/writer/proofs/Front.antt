@@ -1,6 +1,7 @@
--- The functions that write at the front of a lent writer's buffer, from one number, by a function f.
+-- The functions that write at the front of a lent writer's buffer. Each takes one number and calls a function f.
 --     code     what such a function does: f is called with the buffer and the number, and its answer is stored as the count
---     walk     that code, run on any value of the right type: the writer is opened, f is called, its answer is stored, and the writer is closed
+--     walk     that code, run on any value of the right type: the writer is opened, f is called, its answer is stored, and the
+--              writer is closed
 use mathlib.Core.Path.{refl, ap}
 use Prim.Native.Nat.{ℕ}
 use mathlib.Core.List.{[], _∷_, List}
@@ -77,7 +78,8 @@ module _ (f : Name) {M : Type 1} (𝓤 : URA M) (H : Heap 𝓤) (A : Atoms 𝓤)
       pass1 ! (init ! 10 refl (tt, tt)) $ pass1 ! (init ! 8 refl (told-typed .0)) $ pass0 ! $
       move ! (14 ∷ []) $ split ! $ split3 ! $ move ! (3 ∷ []) $ fsplit ! $ move ! (2 ∷ 3 ∷ 0 ∷ []) $
       use3 W (later (some (λ (ν : ℕ). some (λ (δ : GName). lent.Opened L 𝓤 ν δ)))) (lent.opened L 𝓤 H A W) $ await ! tt $ pick ! (λ ν. pick ! (λ δ. learn ! (λ sized. split ! $ move ! (1 ∷ []) $ split3 ! $
-      -- [ν's token; the buffer; what is aside; the cell; the rest; the tokens; _6; …; _5; …; _4; …; _3; …; _2; …; _1; …; room for _0; …; what is needed]
+      -- [ν's token; the buffer; what is aside; the cell; the rest; the tokens; _6; …; _5; …; _4; …; _3; …; _2; …; _1; …;
+      -- room for _0; …; what is needed]
       assigns ! (of-opd ! (load ! (from ! (hop ! (look ! 16 refl) (fld ! refl (fld ! refl (stop !))))) (look-in ! 3 (sub ! 1 refl (sub ! 0 refl (whole !)))))) (from ! (stop !)) (init ! 10 refl (tt, record { fits = sized .1 .0 })) $
       assigns ! (addr ! (from ! (hop ! (look ! 16 refl) (fld ! refl (fld ! refl (hop ! (look-in ! 3 (sub ! 0 refl (sub ! 0 refl (whole !)))) (stop !))))))) (from ! (stop !)) (init ! 8 refl (tt, tt)) $
       assigns ! (agg ! (and-then ! (load ! (from ! (stop !)) (look ! 8 refl)) (and-then ! (load ! (from ! (stop !)) (look ! 10 refl)) (no-more !)))) (from ! (stop !)) (init ! 6 refl (tt, (tt, (record { fits = sized .1 .0 }, tt)))) $
@@ -86,7 +88,8 @@ module _ (f : Name) {M : Type 1} (𝓤 : URA M) (H : Heap 𝓤) (A : Atoms 𝓤)
       calls-from ! fm (raw (lent.Handing L 𝓤 H A Tokens Rest Needs ν δ)) (lent.slice L ∷ told ∷ []) (lent.Answers L 𝓤 H A Tokens next ν δ) (writes ν δ (sized .0)) (and-then ! (load ! (from ! (stop !)) (look ! 3 refl)) (and-then ! (load ! (from ! (stop !)) (look ! 11 refl)) (no-more !))) (λ v.
       use1 W (later (some (λ (m : ℕ). some (λ (bs : List ℕ). lent.Answered L 𝓤 ν δ Tokens next v m bs)))) (id⊢ 𝓤 _) $
       await ! tt $ pick ! (λ m. pick ! (λ bs. learn ! (λ wrote. split3 ! $ move ! (1 ∷ []) $ peeks ! usize (Is usize) (shows 𝓤 H A usize) m (v ∷ []) (λ is.
-      -- [the count; the tokens; the bytes left; what is aside; the cell; _6; …; _5; …; _4; …; _3; …; _2; …; _1; …; room for _0; …]
+      -- [the count; the tokens; the bytes left; what is aside; the cell; _6; …; _5; …; _4; …; _3; …; _2; …; _1; …;
+      -- room for _0; …]
       land ! (from ! (stop !)) (init ! 11 refl (uint-lawful 𝓤 H A W w64 .typed m _ is .0)) $ rewrite ! 11 (λ (u : Val). ‵ (fat fullShare (tyInt w64) l₃ 0 u)) (ap only (is .0)) refl $
       assigns ! (of-opd ! (load ! (from ! (stop !)) (look ! 11 refl))) (from ! (hop ! (look ! 15 refl) (fld ! refl (stop !)))) (store-in ! 4 (sub ! 1 refl (whole !)) (tt, record { fits = is .1 })) $
       assigns ! (of-opd ! (unit-lit !)) (from ! (stop !)) (init ! 17 refl (tt, tt)) $

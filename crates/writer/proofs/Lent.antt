@@ -1,11 +1,13 @@
--- A writer that is lent for κ, with a buffer that it holds for κ′. A function that writes into the buffer is handed it for a lifetime ν of its own.
+-- A writer that is lent for κ, with a buffer that it holds for κ′. A function that writes into the buffer is given it for a
+-- lifetime ν of its own.
 --     Loan        a writer and its two lifetimes
 --     opened      the lent writer gives its cell, its buffer at ν, and the rest, which is put aside
---     passed      the buffer is what such a function takes first, before whatever it takes and needs besides;  passed-at      the same with the count behind the buffer
+--     passed      the buffer is what such a function takes first, before whatever else it takes and needs
+--     passed-at   the same with the count after the buffer
 --     called      a function that meets its contract is called
 --     answered    it answers a count, and leaves the buffer with what it wrote
---     closed      once it is done and the count is stored in the cell, the writer is lent as it was, with what was written
---     ended       that is all that is owed of the parameters in the end
+--     closed      when it is done and the count is stored in the cell, the writer is lent as it was, with what was written
+--     ended       that is all that has to be given back of the parameters in the end
 use mathlib.Core.Path.{_≡_, refl}
 use Prim.Native.Nat.{ℕ, zero, suc, _<_, _^_}
 use mathlib.Core.List.{List, [], _∷_}
@@ -41,7 +43,7 @@ use Rattle.writer.proofs.Writer as T
 use Rattle.writer.proofs.Writer.Laws as T′
 use Rattle.writer.proofs.Buffer.{bytesAs, spot, OnLoan, lent-on, returned}
 
--- what a function has in the end of k parameters of which it owes nothing
+-- what a function has in the end of k parameters of which it has to give back nothing
 abbrev pub nothings : ℕ → Fml
 nothings zero = ftrue
 nothings (suc k) = fsep ftrue (nothings k)
@@ -54,7 +56,7 @@ Kept (suc k) = Unit {0} × Kept k
 abbrev Count : ℕ → Fml
 Count m = usize .own m (vint w64 m ∷ [])
 
--- a writer, the lifetime that it is lent for and the one that it holds its buffer for, with a share of each one's token
+-- a writer, the lifetime for which it is lent and the one for which it holds its buffer, with a share of the token of each
 pub record Loan : Type 0 where
   pub writer : RefT Writer
   pub outer : Lft
@@ -101,28 +103,28 @@ module _ (L : Loan) where
   abbrev pub filledTo : List ℕ → ℕ → Writer
   filledTo bs m = record { out = at-last buffer bs; filled = m }
 
-  -- where the writer lies, and what lies there
+  -- where the writer is in memory, and what is there
   abbrev pub place : Val
   place = vptr (w .ptr .0) (w .ptr .1)
 
   abbrev pub cell : ℕ → Fml
   cell m = fat fullShare (T′.mir erased) (w .ptr .0) (w .ptr .1) (counted m)
 
-  -- the buffer as it is handed on, under a name δ, and what it owns for ν
+  -- the buffer as it is lent on, under a name δ, and what it owns for ν
   abbrev pub handed : GName → RefT (List ℕ)
   handed δ = bytesAs buffer δ bytes
 
   abbrev pub Handed : ℕ → GName → Fml
   Handed ν δ = MutSlice (named 0) (ν ∷ []) u8 .own (handed δ) (spot buffer)
 
-  -- what is had of the writer meanwhile, beside its cell
+  -- what remains of the writer meanwhile, beside its cell
   abbrev pub Aside : ℕ → GName → Fml
   Aside ν δ =
       fsep (OnLoan buffer κ′ (ν ∷ []) q′ δ)
       (fsep (fobor κ q (Body (mem R) (w .ptr .0) (w .ptr .1) (w .name)))
       (fsep (fobs (w .name) (R .coded .code (w .now))) (fauth (w .name) (R .coded .code (w .now)))))
 
-  -- count and bytes are those of the writer that is to be, and the buffer is as long as it was
+  -- the count and the bytes are those of the next writer, and the buffer is as long as it was
   abbrev pub Wrote : Writer → ℕ → List ℕ → Type 0
   Wrote next m bs = (m ≡ next .filled) × ((bs ≡ next .out .now) × (length bs ≡ length bytes))
 
@@ -135,11 +137,11 @@ module _ (L : Loan) where
       let fields = LL.owed (T.the-type α) (T′.the-laws α) (w .now) _ g in
       (fields .1 .0 .1, fields .0 .0 .1)
 
-  -- the writer opened
+  -- the writer after it is opened
   abbrev pub Opened : {M : Type 1} (𝓤 : URA M) → ℕ → GName → Item 𝓤
   Opened 𝓤 ν δ = given Sized (‵ (cell (w .now .filled)) ⊛ ‵ (flft (ν ∷ []) fullShare) ⊛ ‵ (Handed ν δ) ⊛ ‵ (Aside ν δ))
 
-  -- what a function answers that was to write what is next: a count, as the machine value v, and the bytes that it leaves
+  -- the answer of a function that writes the next text: a count, as the machine value v, and the bytes that it leaves
   abbrev pub Answered : {M : Type 1} (𝓤 : URA M) → ℕ → GName → SProp 𝓤 → Writer → Val → ℕ → List ℕ → Item 𝓤
   Answered 𝓤 ν δ Tokens next v m bs = given (Wrote next m bs) ((‵ (flft (ν ∷ []) fullShare) ⊛ raw Tokens) ⊛ ‵ (usize .own m (v ∷ [])) ⊛ ‵ (finally u8 δ bs))
 
@@ -165,11 +167,11 @@ module _ (L : Loan) where
     abbrev pub Answers : ℕ → GName → Val → SProp 𝓤
     Answers ν δ v = H .⇛ (ex 𝓤 (λ (m : ℕ). ex 𝓤 (λ (bs : List ℕ). mean 𝓤 H A (Answered 𝓤 ν δ Tokens next v m bs))))
 
-    -- the function of a name, called with these values, writes what is next
+    -- the function with this name, called with these values, writes the next text
     abbrev pub Writes : Calls 𝓤 H → Name → List Val → Fml → SProp 𝓤 → Type 1
     Writes C f vs Rest Needs = (ν : ℕ) (δ : GName) → w .now .filled < 2 ^ 64 → ent 𝓤 (Handing 𝓤 H A Tokens Rest Needs ν δ) (C f vs (Answers ν δ))
 
-    -- what is next, written, is all that was to be shown
+    -- if the next text is written, all is shown
     abbrev pub Ends : (Val → SProp 𝓤) → Type 1
     Ends Post = (m : ℕ) (bs : List ℕ) → Wrote next m bs → ent 𝓤 (Ending 𝓤 H A Tokens bs m) (Post vunit)
 
@@ -205,11 +207,11 @@ module _ (L : Loan) where
         move ! (3 ∷ []) $ owned ! usize (Is usize) (uint-makes 𝓤 H A W w64) (w .now .filled) _ (refl, fits) $ fjoin ! $
         move ! (1 ∷ 2 ∷ 3 ∷ 0 ∷ []) $ by ! (passed ν δ Tokens (fsep (Count (w .now .filled)) Rest) Needs)
 
-    -- a function is called that meets a contract c
+    -- a function that meets a contract c is called
     pub called : (C : Calls 𝓤 H) → FmC 𝓤 H (W .laws) C → (f : Name) (c : Contract 𝓤) → Triple 𝓤 (C f) c → (x : c .Ghost) {P : SProp 𝓤} {Q : Val → SProp 𝓤} → ent 𝓤 P (c .pre x) → ((v : Val) → ent 𝓤 (c .post x v) (Q v)) → ent 𝓤 P (C f (c .args x) Q)
     called C fm f c meets x {P} {Q} before after = via 𝓤 (c .pre x) before (via 𝓤 (C f (c .args x) (c .post x)) (meets x) (fm→mono 𝓤 (C f (c .args x)) (fm f (c .args x)) (c .post x) Q after))
 
-    -- what such a function leaves of its buffer, and of k things besides
+    -- what such a function leaves of its buffer, and of k other things
     abbrev Leaves : (k : ℕ) → GName → Writer → ℕ → List ℕ × Kept k → SProp 𝓤
     Leaves k δ next m ws =
         sep 𝓤 (sem 𝓤 H A (fsep (fsep (finally u8 δ (ws .0)) (feq ℕ (length (ws .0)) (length bytes))) (nothings k)))
@@ -244,7 +246,7 @@ module _ (L : Loan) where
         -- [the name's half; the borrow; its token; the buffer's token]
         at-once ! $ feqI ! (List Val) (vptr (w .ptr .0) (w .ptr .1) ∷ []) (vptr (w .ptr .0) (w .ptr .1) ∷ []) refl $ fjoin3 ! $ done !
 
-    -- nothing is owed of the k other parameters
+    -- nothing has to be given back of the k other parameters
     none : (k : ℕ) → ent 𝓤 (emp 𝓤) (sem 𝓤 H A (nothings k))
     none zero = id⊢ 𝓤 (emp 𝓤)
     none (suc k) = qed W [] ∵ use0 W (‵ (nothings k)) (none k) $ nothing ! $ fjoin ! $ done !

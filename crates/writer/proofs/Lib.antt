@@ -1,4 +1,4 @@
--- Laws of a writer and of its buffer, held and lent.
+-- Laws about a writer and its buffer, held and lent.
 pub mod Buffer
 pub mod Front
 pub mod Held

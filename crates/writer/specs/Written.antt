@@ -1,4 +1,4 @@
--- What is written next on an award sheet, and the sheet once it is.
+-- An award sheet after the next text is written on it.
 use mathlib.Core.List.{List}
 use Prim.Native.Nat.{ℕ, _+_}
 use lib.ListN.{length}
@@ -8,15 +8,15 @@ use Rattle.bids.specs.Bids.{bidsOf}
 use Rattle.round_lines.specs.RoundLines.{roundText}
 use Rattle.writer.specs.declared.Writer.{Writer}
 
--- the same buffer with the text behind what was filled, which is filled now too
+-- the same buffer with the text after what was filled; the text now counts as filled too
 abbrev pub written : Writer → List ℕ → Writer
 written w text = record { out = at-last (w .out) (putAt (now (w .out)) (w .filled) text); filled = w .filled + length text }
 
--- the same buffer with the text at its front, and nothing filled but the text
+-- the same buffer with the text at its front; only the text counts as filled
 abbrev pub fronted : Writer → List ℕ → Writer
 fronted w text = record { out = at-last (w .out) (putAt (now (w .out)) 0 text); filled = length text }
 
--- a round of the bids that these words are, as it was answered
+-- a round of the bids that these words encode, as it was answered
 abbrev pub answeredText : ℕ → List ℕ → List ℕ → List ℕ → List ℕ
 answeredText paths words answers results =
     roundText paths (record { bids = bidsOf words; answers = answers; results = results })

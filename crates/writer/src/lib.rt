@@ -11,13 +11,13 @@ ghost use Rattle.market.specs.Answers.{formRefusal};
 ghost use Rattle.award_sheet.specs.AwardSheet.{biddersText, isBidder, refusedLine, refusedText, titleText};
 ghost use Rattle.writer.specs.Written.{written, fronted, answeredText};
 
-// The output buffer, together with the count of bytes filled.
+// The output buffer, and how many of its bytes are filled.
 pub struct Writer<'a> {
     pub out: &'a mut [u8],
     pub filled: usize,
 }
 
-// A sheet of which nothing is written yet.
+// Begins a sheet, of which nothing is written yet.
 pub fn start<'a>(out: &'a mut [u8]) -> Writer<'a>
     ensures { λ r. ⌜ (r .out ≡ out .entry) × (r .filled ≡ 0) ⌝ }
 {
@@ -87,7 +87,7 @@ pub fn faulty<'s, 'a>(w: &'s mut Writer<'a>, line: u32)
     w.filled = end;
 }
 
-// How many bytes are filled, of a buffer that stays as it is.
+// How many bytes are filled. The buffer stays as it is.
 pub fn filled<'a>(w: Writer<'a>) -> usize
     ensures { λ r. ⌜ (r ≡ w .entry .filled) × (now (w .exit .0) ≡ now (w .entry .out)) ⌝ }
 {

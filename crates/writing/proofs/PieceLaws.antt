@@ -10,24 +10,24 @@ use Rattle.text.specs.Decimal.{decimal}
 use Rattle.fields.specs.Fields.{space, newline, numbersLine}
 use Rattle.fields.proofs.FieldLaws.{fieldText, numbersText, text-cons, line-text}
 
--- the one at a place, and those behind it
+-- the number at a place, and those after it
 pub from-here : (ns : List ℕ) (i : ℕ) → i < length ns → drop i ns ≡ getD ns i 0 ∷ drop (i + 1) ns
 from-here ns i h = drop-cons ns i 0 h ∙ ap (λ (k : ℕ). getD ns i 0 ∷ drop k ns) (sym (add-one i))
 
 module _ (last : ℕ) (ns : List ℕ) (i : ℕ) where
-  -- a number that is not the last one, and those behind it
+  -- a number that is not the last one, and those after it
   pub more-numbers : i + 1 < length ns → numbersText last (drop i ns) ≡ fieldText (getD ns i 0) space ++ numbersText last (drop (i + 1) ns)
   more-numbers h =
       ap (numbersText last) (from-here ns i (omega arith))
       ∙ text-cons last (getD ns i 0) (drop (i + 1) ns) (omega (arith, length-drop (i + 1) ns))
 
-  -- the last one
+  -- the last number
   pub last-number : i < length ns → length ns ≤ i + 1 → numbersText last (drop i ns) ≡ fieldText (getD ns i 0) last ++ []
   last-number h end =
       ap (numbersText last) (from-here ns i h ∙ ap (λ (l : List ℕ). getD ns i 0 ∷ l) (drop-of-length-le ns end))
       ∙ sym (append-nil (fieldText (getD ns i 0) last))
 
--- a field with the byte behind it, and what follows
+-- a field with the byte that ends it, and what follows
 pub field-piece : (field : List ℕ) (stop : ℕ) (more : List ℕ) → field ++ (stop ∷ more) ≡ (field ++ (stop ∷ [])) ++ more
 field-piece field stop more = sym (append-assoc field (stop ∷ []) more)
 

@@ -1,4 +1,4 @@
--- Texts put into a buffer one behind another.
+-- Texts put into a buffer one after another.
 use mathlib.Core.Path.{_≡_, refl, sym, _∙_, ap, ap₂}
 use mathlib.Core.List.{List, [], _∷_, _++_, append-assoc, append-nil}
 use Prim.Native.Nat.{ℕ, _+_, _≤_}
@@ -8,7 +8,7 @@ use lib.Seq.{take-append-seam, drop-append-add, drop-drop, length-take-le}
 use Rattle.text.proofs.PutLaws.{put-length, put-none, put-before}
 use Rattle.text.specs.Put.{putAt}
 
--- what is put behind a text that was put is put with it
+-- to put a text, and then another directly after it, is to put both at once
 pub put-behind : (out : List ℕ) (at : ℕ) (x y : List ℕ) → at + length x ≤ length out → putAt (putAt out at x) (at + length x) y ≡ putAt out at (x ++ y)
 put-behind out at x y room =
     let front = take at out ++ x in
@@ -20,12 +20,12 @@ put-behind out at x y room =
     (ap (λ (n : ℕ). drop (n + length y) (front ++ back)) long ∙ drop-append-add front back (length y) ∙ drop-drop (length y) (at + length x) out)
     ∙ ap₂ (λ (a : List ℕ) (n : ℕ). a ++ drop n out) (append-assoc (take at out) x y) same
 
--- a byte that is set is put
+-- to set a byte is to put it
 pub put-byte : (out : List ℕ) (at b : ℕ) → at + 1 ≤ length out → set out at b ≡ putAt out at (b ∷ [])
 put-byte out at b room =
     ap (λ (l : List ℕ). set l at b) (sym (put-none out (at + 1))) ∙ put-before out at b [] (omega arith)
 
--- a text being written from a place on: `rest` is what is to come of it, from `place` on
+-- a text being written from the place `at` on: `rest` is what is still to be written of it, from `place` on
 pub record WrittenTo (before : List ℕ) (at : ℕ) (whole rest : List ℕ) (place : ℕ) (out : List ℕ) : Type 0 where
   pub room : at + length whole ≤ length before
   pub done : List ℕ
@@ -53,11 +53,11 @@ module _ {before : List ℕ} {at : ℕ} {whole rest : List ℕ} {place : ℕ} {o
   pub written-room : place + length rest ≤ length out
   written-room = omega (arith, long, written-same, to .behind, to .room)
 
-  -- the next piece of it has room
+  -- there is room for its next piece
   pub written-fits : (piece more : List ℕ) → rest ≡ piece ++ more → place + length piece ≤ length out
   written-fits piece more e = omega (arith, written-room, ap length e ∙ length-append piece more)
 
-  -- and is written
+  -- and the piece is written
   pub written-on : (piece more : List ℕ) → rest ≡ piece ++ more → {r : ℕ} {next : List ℕ} → r ≡ place + length piece → next ≡ putAt out place piece → WrittenTo before at whole more r next
   written-on piece more e {r} {next} is put =
       let done = to .done ++ piece in
@@ -72,7 +72,7 @@ module _ {before : List ℕ} {at : ℕ} {whole rest : List ℕ} {place : ℕ} {o
             ∙ put-behind before at (to .done) piece (omega (arith, long, to .room));
       }
 
-  -- nothing is to come
+  -- nothing is left to write
   pub written-done : rest ≡ [] → (place ≡ at + length whole) × (out ≡ putAt before at whole)
   written-done none =
       let all : to .done ≡ whole = sym (to .parts ∙ ap (λ (l : List ℕ). to .done ++ l) none ∙ append-nil (to .done)) in (

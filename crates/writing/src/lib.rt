@@ -1,4 +1,4 @@
-// Numbers and words put into the buffer, each with the byte behind it.
+// Numbers and words written into the buffer, each with the byte that ends it.
 ghost use mathlib.Core.Path.{_≡_};
 ghost use mathlib.Core.List.{_++_, _∷_, []};
 ghost use Prim.Native.Nat.{_+_, _≤_};
@@ -7,7 +7,7 @@ ghost use Rattle.text.specs.Put.{putAt};
 ghost use Rattle.fields.specs.Fields.{countLine};
 ghost use Rattle.fields.proofs.FieldLaws.{fieldText, numbersText};
 
-// A number and the byte that ends it.
+// Writes a number and the byte that ends it.
 pub fn put_field(out: &mut [u8], at: usize, n: u64, stop: u8) -> usize
     requires { ⌜ at + length (fieldText n stop) ≤ length (now out) ⌝ }
     ensures place { λ r. ⌜ r ≡ at + length (fieldText n stop) ⌝ }
@@ -18,7 +18,7 @@ pub fn put_field(out: &mut [u8], at: usize, n: u64, stop: u8) -> usize
     end + 1
 }
 
-// A word and the byte that ends it.
+// Writes a word and the byte that ends it.
 pub fn put_word(out: &mut [u8], at: usize, word: &[u8], stop: u8) -> usize
     requires { ⌜ at + length (now word ++ (stop ∷ [])) ≤ length (now out) ⌝ }
     ensures place { λ r. ⌜ r ≡ at + length (now (word .entry) ++ (stop ∷ [])) ⌝ }
@@ -29,7 +29,7 @@ pub fn put_word(out: &mut [u8], at: usize, word: &[u8], stop: u8) -> usize
     next + 1
 }
 
-// Numbers with a space between them, the last ended by another byte.
+// Writes numbers with a space between them, the last ended by another byte.
 pub fn put_numbers(out: &mut [u8], at: usize, numbers: &[u64], last: u8) -> usize
     requires { ⌜ 1 ≤ length (now numbers) ⌝ }
     requires { ⌜ at + length (numbersText last (now numbers)) ≤ length (now out) ⌝ }
@@ -45,7 +45,7 @@ pub fn put_numbers(out: &mut [u8], at: usize, numbers: &[u64], last: u8) -> usiz
     put_field(out, place, numbers[i], last)
 }
 
-// A word and a number, on a line of their own.
+// Writes a word and a number, on a line of their own.
 pub fn put_count(out: &mut [u8], at: usize, word: &[u8], n: u64) -> usize
     requires { ⌜ at + length (countLine (now word) n) ≤ length (now out) ⌝ }
     ensures place { λ r. ⌜ r ≡ at + length (countLine (now (word .entry)) n) ⌝ }

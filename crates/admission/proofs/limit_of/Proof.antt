@@ -1,3 +1,5 @@
+-- The product is the rule's limit once the multiplier returned is the rule's; it fits 64 bits by `limit-within`, the
+-- top of any sound bidder's limit.
 use native.Mathlib.Omega.{arith}
 use mathlib.Core.Path.{_≡_, ap}
 use Prim.Native.Nat.{_+_, _*_, _-_}

@@ -1,3 +1,5 @@
+-- The invariant: `limits` has the limits of the first `i` bidders and 0 after them (`filled`); each turn fills one
+-- more place (`fill-next`), and at the end all are filled (`all-filled`).
 use borrow.Author.Needs.{needs}
 use native.Mathlib.Omega.{arith}
 use mathlib.Core.Path.{_≡_, refl, _∙_, ap}

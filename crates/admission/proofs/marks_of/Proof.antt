@@ -1,3 +1,6 @@
+-- The invariant (`MarkedTo`): the first `k` bids have their marks, `used` has the values admitted of them and stays
+-- within the top limit, and the marks still to come are the rule's for the bids left. `one-marked` takes the bid at
+-- `at` over; that it is whole and sound (`bid-right`) bounds every read and sum.
 use borrow.Author.Needs.{needs}
 use native.Mathlib.Omega.{arith}
 use mathlib.Core.Path.{_≡_, ap}

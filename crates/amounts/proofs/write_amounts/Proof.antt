@@ -1,3 +1,5 @@
+-- The invariant: the lent list is the first `bidder` amounts and then the old words; each turn writes one amount more
+-- over an old word (write-next), and after the last all are written (all-written).
 use native.Mathlib.Omega.{arith}
 use borrow.Author.Needs.{needs}
 use mathlib.Core.Path.{_≡_, refl, _∙_, ap}

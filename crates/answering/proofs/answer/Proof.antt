@@ -1,3 +1,5 @@
+-- The test before the write keeps the slice within the buffer, so the slice has exactly `count` bytes (length-take-le);
+-- this is the only need that is not automatic.
 use borrow.Author.Needs.{needs}
 use mathlib.Core.Path.{sym}
 use lib.Seq.{length-take-le}

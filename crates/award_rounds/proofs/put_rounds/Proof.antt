@@ -1,3 +1,5 @@
+-- A text in two pieces, the two rounds (`two-rounds`): the first is added by `written-on`, which leaves the room that
+-- the second needs, and the second by `written-all`.
 use borrow.Author.Needs.{needs}
 use mathlib.Core.List.{[], _∷_}
 use Rattle.writing.proofs.PutLaws.{written-none, written-room, written-fits, written-on, written-all}

@@ -1,3 +1,5 @@
+-- A text in three pieces, title, rounds and bidders (`award-pieces`): the first two are added by `written-on`, which
+-- leaves the room that the next one needs, and the last by `front-all`, since the sheet begins at place 0.
 use borrow.Author.Needs.{needs}
 use mathlib.Core.Path.{refl}
 use mathlib.Core.List.{[], _∷_, _++_}

@@ -1,3 +1,6 @@
+-- The invariant (`AwardedTo`): `left` is what the first `i` lots left of each path, and each sum or lowest price so
+-- far, joined with what the later lots take, is that of the whole walk. `one-awarded` takes one lot over; each sum is
+-- at most `i` quantity limits, so it fits.
 use borrow.Author.Needs.{needs}
 use native.Mathlib.Omega.{arith}
 use Prim.Native.Nat.{_≤_, _-_}

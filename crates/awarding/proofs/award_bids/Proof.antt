@@ -1,3 +1,5 @@
+-- `order` leaves the lots of the admitted bids in order in the scratch, so the walk whose tables `award` returns is
+-- the rule's walk (`awardsOf`).
 use mathlib.Core.Path.{_∙_, ap}
 use Rattle.awards.specs.Awards.{walk, awardsOf}
 use Rattle.awarding.specs.Tables.{wonTable, soldTable, priceTable}

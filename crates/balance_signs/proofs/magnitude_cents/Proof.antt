@@ -1,3 +1,6 @@
+-- By cases on the sign: below 0 the negative fits, is not below 0 and has the same magnitude (opposite-fits,
+-- opposite-above); from 0 on the balance is its own magnitude (from-zero). A sound balance is small enough for the
+-- casts (magnitude-within).
 use native.Mathlib.Omega.{arith}
 use mir.Facts.{toZ-ofZ}
 use Rattle.balance.proofs.Balances.{opposite-fits, magnitude-within, opposite-above, from-zero}

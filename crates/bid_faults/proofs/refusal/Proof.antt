@@ -1,3 +1,6 @@
+-- The invariant (`TestedBids`): the refusals of the bids from `at` on decide the whole list, `stamp` is the latest
+-- stamp, and `seen` marks exactly the pairs of bidder and path that have a bid. A fault at `at` gives 14, 15 or 16 by
+-- its law; a sound bid moves the invariant to its end (`bid-tested`).
 use borrow.Author.Needs.{needs}
 use native.Mathlib.Omega.{arith}
 use mathlib.Core.Path.{sym, _∙_}

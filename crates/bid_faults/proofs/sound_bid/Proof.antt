@@ -1,3 +1,6 @@
+-- One case for each way out: a header cut short (`not-whole`), a bad header (`bad-header`) or pairs cut short
+-- (`cut-short`) make the rule's test false; otherwise the header is sound and all words are present, and the pairs
+-- decide (`pairs-decide`).
 use Rattle.bids.proofs.BidLaws.{not-whole, cut-short, bad-header, pairs-decide}
 use native.Mathlib.Omega.{arith}
 use mathlib.Core.Path.{sym, _∙_, ap}

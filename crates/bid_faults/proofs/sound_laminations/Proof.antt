@@ -1,3 +1,6 @@
+-- The invariant (`TestedTo`): the test of all pairs equals the test of the pairs from `i` on, with `before` as the
+-- price before them. A pair that passes goes over to the tested ones (`tested-next`); one that fails makes the whole
+-- test false (`tested-fails`).
 use borrow.Author.Tests.{not-true, not-false}
 use borrow.Author.Needs.{needs}
 use mathlib.Core.Path.{sym}

@@ -1,3 +1,5 @@
+-- The invariant (`WordsTo`): the first `n` words of the section are stored, and the others are the numbers of the text
+-- from `at` on. Each turn stores one number (`one-put`); a number takes at least one byte, so `n` never passes `at`.
 use Prim.Native.Nat.{_+_, _-_}
 use native.Mathlib.Omega.{arith}
 use lib.ListN.{length, drop, length-drop}

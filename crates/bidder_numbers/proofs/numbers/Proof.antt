@@ -1,3 +1,5 @@
+-- The invariant (`FilledTo`): the first `i` numbers are those of the first `i` slots, and the others are 0. Each slot's
+-- bidder is one of a book (`line-listed`), so the cast to 32 bits keeps its number.
 use lib.ListN.{getD, replicate}
 use borrow.Author.Needs.{needs}
 use Prim.Native.Nat.{_-_}

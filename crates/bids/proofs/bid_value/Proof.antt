@@ -1,3 +1,5 @@
+-- The count that `header_at` returns is the header's count in the rule; with that put in, the claim is the contract of
+-- `pairs_value` at the first pair.
 use native.Mathlib.Omega.{arith}
 use mathlib.Core.Path.{_≡_, _∙_, ap}
 use Prim.Native.Nat.{ℕ}

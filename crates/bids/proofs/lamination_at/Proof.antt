@@ -1,3 +1,5 @@
+-- Both reads are inside the list, since the pair's words are; the rest is that `wide` returns the same number, so the
+-- record read is the rule's.
 use borrow.Author.Needs.{needs}
 use Rattle.bids.proofs.lamination_at.Statement.{statement}
 use Rattle.bids.proofs.lamination_at.Tie as tie

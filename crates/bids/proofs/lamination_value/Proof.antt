@@ -1,3 +1,5 @@
+-- `wide` changes nothing, so the product is the rule's `laminationValue`; `lamination-value-within` bounds it, and
+-- hence it fits 64 bits and the stated limit.
 use native.Mathlib.Omega.{arith}
 use mathlib.Core.Path.{_≡_, ap}
 use Prim.Native.Nat.{_*_}

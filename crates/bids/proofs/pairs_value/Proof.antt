@@ -1,3 +1,6 @@
+-- The invariant (`AddedTo`): the sum is at most `i` pair limits, the value of all pairs is the sum plus the value of
+-- the pairs from `i` on, and those are sound. Each turn moves one pair from the rest to the sum (`one-added`); after
+-- the last nothing is left (`all-added`).
 use Rattle.market.specs.declared.units.Cents.{Cents}
 use borrow.Author.Needs.{needs}
 use native.Mathlib.Omega.{arith}

@@ -1,3 +1,5 @@
+-- By cases on the refusal's number: any but 0 is the rule's refusal and leaves the words (refuses, list-stays), 0 its
+-- answer with the entries issued (takes, list-changes). Where no row holds, pay-cleared gives what the callees require.
 use mathlib.Core.Path.{sym, _∙_, ap}
 use mathlib.Core.List.{map}
 use Rattle.market.proofs.Tables.{refuses, takes, list-stays, list-changes}

@@ -1,3 +1,5 @@
+-- Six stores in a row are one write of the bidder's six words (six-stores), and no store changes the length, so each
+-- index is in range. The step fits 32 bits by its type.
 use Prim.Native.Nat.{_<_, _^_}
 use borrow.Author.Tests.{lt-ltb}
 use native.Mathlib.Omega.{arith}

@@ -1,3 +1,6 @@
+-- The invariant: the words of the first `i` bidders are written from biddersFrom on (laidTo), the length is unchanged,
+-- and these bidders fit their fields. Each turn writes one more bidder (lay-next), which fits by lay_bidder's contract
+-- (pass).
 use Rattle.market.proofs.Tests.{Passed, pass, passed}
 use mathlib.Core.List.{List}
 use Prim.Native.Nat.{ℕ, _+_, _*_}

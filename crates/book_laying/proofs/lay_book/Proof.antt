@@ -1,3 +1,5 @@
+-- The two counts, the stage, the paths and the bidders, written one after another, are the book's words written at once
+-- (book-laid). That the book fits its fields is collected from what the three callees ensure.
 use mathlib.Core.Path.{_∙_, ap}
 use mathlib.Core.List.{List}
 use Prim.Native.Nat.{ℕ}

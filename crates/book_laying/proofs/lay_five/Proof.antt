@@ -1,3 +1,5 @@
+-- Five stores in a row are one write of the five words (sets-eq), and no store changes the length, so each index is in
+-- range. The round and the days fit 32 bits by their types.
 use mathlib.Core.Path.{ap₂}
 use mathlib.Core.Bool.{_&&_}
 use Prim.Native.Nat.{_<_, _^_}

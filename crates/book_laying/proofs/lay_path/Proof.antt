@@ -1,3 +1,5 @@
+-- Four stores in a row are one write of the path's four words (sets-eq), and no store changes the length, so each index
+-- is in range. Zone, offer and sold fit 32 bits by their types.
 use mathlib.Core.Bool.{_&&_}
 use borrow.Author.Tests.{lt-ltb}
 use mathlib.Core.Path.{_∙_, ap, ap₂}

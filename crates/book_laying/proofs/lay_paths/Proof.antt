@@ -1,3 +1,5 @@
+-- The invariant: the words of the first `i` paths are written from frontSize on (laidTo), the length is unchanged, and
+-- these paths fit their fields. Each turn writes one more path (lay-next), which fits by lay_path's contract (pass).
 use Rattle.market.proofs.Tests.{Passed, pass, passed}
 use mathlib.Core.List.{List}
 use Prim.Native.Nat.{ℕ, _+_, _*_}

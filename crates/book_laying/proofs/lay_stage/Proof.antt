@@ -1,3 +1,5 @@
+-- By cases on the stage: lay_five writes five zeros for idle, and 1 with kind, round and days for an open auction; both
+-- are the rule's stageWords, and the numbers fit by lay_five's contract.
 use Prim.Native.Nat.{ℕ}
 use mathlib.Core.Path.{sym, _∙_, ap}
 use Rattle.text.specs.Put.{putAt}

@@ -1,3 +1,5 @@
+-- Five of the six words are read unchanged, so only the step's word can differ from what it is read as: its test is the
+-- comparison of all six words (bidder-same).
 use mathlib.Core.Path.{_∙_}
 use Rattle.book_standing.proofs.StandLaws.{bidder-same}
 use borrow.Author.Needs.{needs}

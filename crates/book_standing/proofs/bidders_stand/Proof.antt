@@ -1,3 +1,5 @@
+-- The invariant: `stand` says whether the words of the first `i` bidders are those of the bidders that they are read as
+-- (StandTo). Each turn adds the test of one more bidder (stand-next).
 use borrow.Author.Needs.{needs}
 use mathlib.Core.Path.{_≡_, refl, _∙_, ap}
 use Prim.Native.Nat.{_≤_, _-_}

@@ -1,3 +1,5 @@
+-- Each word equals the one that it is read as exactly if its test holds; the four tests together are the comparison of
+-- the path's four words (path-same).
 use Rattle.book_standing.proofs.StandLaws.{path-same}
 use borrow.Author.Needs.{needs}
 use Rattle.book_standing.proofs.path_stands.Statement.{statement}

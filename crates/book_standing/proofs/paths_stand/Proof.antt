@@ -1,3 +1,5 @@
+-- The invariant: `stand` says whether the words of the first `i` paths are those of the paths that they are read as
+-- (StandTo). Each turn adds the test of one more path (stand-next).
 use borrow.Author.Needs.{needs}
 use mathlib.Core.Path.{_≡_, refl, _∙_, ap}
 use Prim.Native.Nat.{_≤_, _-_}

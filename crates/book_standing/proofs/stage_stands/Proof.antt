@@ -1,3 +1,5 @@
+-- By cases on word 2: where it is 0 the words are those of an idle stage exactly if the other four are 0 (idle-same);
+-- otherwise they are those of an open one exactly if word 2 is 1 and the four pass their tests (open-same).
 use Rattle.book_standing.proofs.StandLaws.{idle-same, open-same}
 use borrow.Author.Needs.{needs}
 use Rattle.book_standing.proofs.stage_stands.Statement.{statement}

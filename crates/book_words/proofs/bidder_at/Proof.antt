@@ -1,3 +1,5 @@
+-- The result is the rule's record field by field: the five amounts are the words themselves, the step is narrow's
+-- result; each index read is below at + 6, so it is in range.
 use Prim.Native.Nat.{_+_}
 use lib.ListN.{getD}
 use Rattle.market.specs.Books.{cents}

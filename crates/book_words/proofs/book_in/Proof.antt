@@ -1,3 +1,5 @@
+-- The result is the rule's record field by field: paths, bidders and stage by the contracts of their functions, the two
+-- counts are words 0 and 1, and the account is the one given.
 use lib.ListN.{getD}
 use mir.Facts.{toZ-ofZ}
 use Rattle.market.specs.Books.{balance}

@@ -1,3 +1,5 @@
+-- The result is the rule's record field by field, each field by the contract of direction_in or narrow; each index read
+-- is below at + 4, so it is in range.
 use Rattle.market.specs.Books.{megawatts}
 use borrow.Author.Needs.{needs}
 use Rattle.book_words.proofs.path_at.Statement.{statement}

@@ -1,3 +1,5 @@
+-- By cases on word 2: where it is 0 the rule's stage is idle, otherwise it is an open auction, whose kind, round and
+-- days are the rule's by the contracts of kind_in and narrow.
 use borrow.Author.Tests.{eq-eqb, ne-eqb}
 use lib.ListN.{getD}
 use Rattle.market.specs.Books.{dayNumber}

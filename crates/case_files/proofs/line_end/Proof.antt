@@ -1,3 +1,5 @@
+-- The invariant is what is ensured: `at` is between `from` and the end of the bytes. The loop's test keeps each read in
+-- range, and each turn comes one byte nearer to the end.
 use borrow.Author.Needs.{needs}
 use Prim.Native.Nat.{_≤_, _-_}
 use lib.ListN.{length}

@@ -1,3 +1,4 @@
+-- Nothing is ensured, so the invariant only keeps `i` within the list, and each read is in range.
 use borrow.Author.Needs.{needs}
 use Prim.Native.Nat.{_-_, _≤_}
 use lib.ListN.{length}

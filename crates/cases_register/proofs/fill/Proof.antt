@@ -1,3 +1,4 @@
+-- The invariant: `append` does not change the register's length, so there is room for each of the 1024 entries.
 use borrow.Author.Needs.{needs}
 use mathlib.Core.Path.{_≡_}
 use Prim.Native.Nat.{_-_}

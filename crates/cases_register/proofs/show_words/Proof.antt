@@ -1,3 +1,5 @@
+-- No fact has to be carried from turn to turn, since `word` reads any place; the measure, the places left, makes the
+-- loop end.
 use borrow.Author.Needs.{needs}
 use Prim.Native.Nat.{_-_}
 use Rattle.cases_register.proofs.show_words.Statement.{statement}

@@ -1,3 +1,5 @@
+-- The invariant: the count is at most the place reached, so adding 1 to it does not overflow. By cases on whether the
+-- word is counted.
 use borrow.Author.Needs.{needs}
 use mathlib.Core.Logic.{⊎-elim}
 use Prim.Native.Nat.{_≤_, _-_}

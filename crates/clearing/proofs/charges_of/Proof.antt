@@ -1,3 +1,6 @@
+-- The invariant (`ChargedTo`): `charges` has the charges of the first `k` bids by bidder, each amount at most `k` top
+-- charges, and adding the bids left gives the rule's charges. `one-charged` adds the bid at `at`, which is whole and
+-- sound (`bid-right`), so that its path and bidder are inside the tables.
 use mathlib.Core.Path.{_≡_, refl, ap}
 use borrow.Author.Needs.{needs}
 use native.Mathlib.Omega.{arith}

@@ -1,3 +1,6 @@
+-- The invariant (`LaidTo`): the list begins with the rows of the first `k` bids and is unchanged past them, and these
+-- rows followed by those of the bids left are the rule's rows. `put_row` writes the row of the bid at `at`
+-- (`one-laid`), which is whole and sound (`bid-right`).
 use borrow.Author.Needs.{needs}
 use native.Mathlib.Omega.{arith}
 use mathlib.Core.Path.{_≡_, refl, _∙_, ap}

@@ -1,3 +1,5 @@
+-- The invariant: the list begins with the rows of the first `i` paths and is unchanged past them; each turn writes
+-- one row more (`row-next`).
 use borrow.Author.Needs.{needs}
 use native.Mathlib.Omega.{arith}
 use mathlib.Core.Path.{_≡_, refl, _∙_, ap}

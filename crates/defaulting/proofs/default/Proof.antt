@@ -1,3 +1,6 @@
+-- By cases on the refusal's number: any but 0 is the rule's refusal and leaves the words (refuses, list-stays), 0 its
+-- answer with the pending entries removed (takes, list-changes). Where no row holds, default-cleared gives what the
+-- callees require.
 use mathlib.Core.Path.{sym, _∙_, ap, ap₂}
 use Prim.Native.Nat.{ℕ}
 use Rattle.market.proofs.Tables.{refuses, takes, list-stays, list-changes}

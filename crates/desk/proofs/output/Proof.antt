@@ -1,3 +1,6 @@
+-- By cases: a buffer that is too short is refused and left as it is (`too-short`); a faulty form prints its line
+-- (`faulty-output`); a right one prints what `run` writes (`right-output`), and its places are those that `form_of`
+-- ensures.
 use borrow.Author.Needs.{needs}
 use mathlib.Core.Path.{sym, _∙_, subst}
 use native.Mathlib.Omega.{arith}

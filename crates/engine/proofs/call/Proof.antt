@@ -1,3 +1,5 @@
+-- By cases on the eleven calls: the rule's `step` for the case is the callee's rule by definition, and what the callee
+-- is not lent stays (`refl`). Only a round touches the scratch (`scratch-holds`).
 use mathlib.Core.Path.{refl}
 use borrow.Author.Needs.{needs}
 use Rattle.market.specs.Answers.{firstOf}

@@ -1,3 +1,5 @@
+-- The invariant: the words are the old ones with the first `i` entries written over by their changed form. The entry at
+-- `i` is still the old one, so changing it and putting it back writes one more (change-next).
 use borrow.Author.Needs.{needs}
 use mathlib.Core.Path.{_≡_, refl, _∙_, ap}
 use Prim.Native.Nat.{_≤_, _-_, ℕ}

@@ -1,3 +1,5 @@
+-- By cases on whether the entry goes: is_gone decides the test of both `cond`s of the contract, and the entry that was
+-- read is the contract's entry.
 use mathlib.Core.Path.{sym, _∙_, ap}
 use Rattle.register.specs.Entries.{goes}
 use Rattle.register.specs.Words.{putAt}

@@ -1,3 +1,6 @@
+-- The invariant: of the first `i` entries those that stay are written at the front, and `kept` is their number. Since
+-- `kept` is at most `i`, the entry at `i` is still the old one; one turn of `keep` then keeps the invariant
+-- (kept-count, kept-words).
 use borrow.Author.Needs.{needs}
 use mathlib.Core.Path.{_≡_, refl, _∙_, ap}
 use Prim.Native.Nat.{ℕ, _+_, _≤_, _-_}

@@ -1,3 +1,5 @@
+-- By the tests in turn: no digits, a value over the limit, a text that ends with the digits, and another byte after
+-- them each make the rule's field empty. Where all four pass, the rule's condition is true (`field-here`).
 use native.Mathlib.Omega.{arith}
 use Rattle.fields.proofs.ReadLaws.{no-digits, over-limit, no-end, other-end, field-here}
 use borrow.Author.Needs.{needs}

@@ -1,3 +1,6 @@
+-- The invariant (`TakenTo`): the bytes of all numbers are `used` plus those of the `left` numbers still to read, or 0
+-- if one of these is missing. Each turn reads one number (`taken-one`); a missing one makes the whole 0
+-- (`taken-missing`).
 use Prim.Native.Nat.{_-_}
 use lib.Dec.{eqb}
 use borrow.Author.Needs.{needs}

@@ -1,3 +1,5 @@
+-- The invariant (`MatchedTo`): the first `i` bytes of the word are in the text, so the answer is whether the rest of
+-- the word begins the rest of the text. The end of the text and a different byte both decide that it does not.
 use native.Mathlib.Omega.{arith}
 use borrow.Author.Needs.{needs}
 use Prim.Native.Nat.{_-_}

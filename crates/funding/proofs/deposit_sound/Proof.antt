@@ -1,3 +1,6 @@
+-- By cases on the refusal's number: any but 0 is the rule's refusal (refuses), 0 its answer (takes). Where no row
+-- holds, deposit-cleared gives what the callees require: the bidder's number is within the limit, and there is room for
+-- the amount.
 use mathlib.Core.Path.{sym, _∙_, ap}
 use Rattle.funding.proofs.Cleared.{deposit-cleared}
 use Rattle.market.proofs.Tables.{refuses, takes}

@@ -1,3 +1,6 @@
+-- By cases on the refusal's number: any but 0 is the rule's refusal (refuses), 0 its answer (takes). Where no row
+-- holds, withdraw-cleared gives what the callees require: the bidder's number and bounds, and that the amount may be
+-- withdrawn.
 use mathlib.Core.Path.{sym, _∙_, ap}
 use Rattle.funding.proofs.Cleared.{withdraw-cleared}
 use Rattle.market.proofs.Tables.{refuses, takes}

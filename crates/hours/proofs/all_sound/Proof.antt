@@ -1,3 +1,6 @@
+-- The invariant (`Passed`): testing the 16 zone prices comes to testing those from `i` on, since all before passed. A
+-- bad price fails the whole test (fail-first), a good one moves `i` on (pass-first); at the end none is left
+-- (passed-first).
 use borrow.Author.Needs.{needs}
 use borrow.Author.Tests.{not-true, not-false}
 use mathlib.Core.Path.{refl, sym, _∙_, ap}

@@ -1,3 +1,6 @@
+-- By cases on the direction: export takes the part of the price above 0, import that of its negative. A sound price is
+-- within the account's limits, which the callees require (price-account), and both parts are within the price limit
+-- (above-within, below-within).
 use native.Mathlib.Omega.{arith}
 use Rattle.hours.proofs.PriceLaws.{price-account, above-within, below-within}
 use borrow.Author.Needs.{needs}

@@ -1,3 +1,5 @@
+-- By cases on what is told: nothing is a row without numbers, a list is a row of its numbers. In both cases the row is
+-- the whole text, so one written piece completes it (written-done).
 use borrow.Author.Needs.{needs}
 use native.Mathlib.Omega.{arith}
 use mathlib.Core.Path.{refl, sym, _∙_, ap}

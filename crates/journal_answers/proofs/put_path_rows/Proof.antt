@@ -1,3 +1,5 @@
+-- Without paths the text is empty (path-rows-none). Otherwise it is the first path's row after a slash and then the
+-- rows of the others after bars (path-rows-some), and the two calls write these two pieces in that order.
 use borrow.Author.Needs.{needs}
 use native.Mathlib.Omega.{arith}
 use Prim.Native.Nat.{_*_, _-_, _≤_, _<_}

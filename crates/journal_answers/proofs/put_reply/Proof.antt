@@ -1,3 +1,5 @@
+-- By cases on the answer: each arm writes one piece that is the whole reply (reply-refused, reply-done, reply-drawn,
+-- reply-round). The limits on the bids, the paths and the list make every reply fit the buffer (reply-fits).
 use borrow.Author.Needs.{needs}
 use native.Mathlib.Omega.{arith}
 use mathlib.Core.Path.{_≡_, refl}

@@ -1,3 +1,5 @@
+-- The line is four pieces (round-pieces): the count of bids, the bids' rows, the paths' rows, byte 10. Each call writes
+-- the next piece where the one before it ends (written-on), so the last call completes the line (written-all).
 use borrow.Author.Needs.{needs}
 use native.Mathlib.Omega.{arith}
 use mathlib.Core.Path.{refl}

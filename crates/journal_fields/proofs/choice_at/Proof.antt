@@ -1,3 +1,5 @@
+-- Three cases of the two tests: the first word is present, only the second is, or neither (choice-first, choice-second,
+-- choice-none). A word that is present ends within the line (word-room).
 use borrow.Author.Needs.{needs}
 use mathlib.Core.Path.{sym, _∙_}
 use Rattle.journal_fields.proofs.FieldLaws.{word-room, choice-first, choice-second, choice-none}

@@ -1,3 +1,5 @@
+-- By cases on whether the number takes all that is left of the line: then it is the rule's number (last-here),
+-- otherwise the rule gives no field either (last-open).
 use borrow.Author.Needs.{needs}
 use native.Mathlib.Omega.{arith}
 use Rattle.journal_fields.proofs.FieldLaws.{last-open, last-here}

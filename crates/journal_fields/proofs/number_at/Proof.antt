@@ -1,3 +1,5 @@
+-- Three cases: no space (number-absent), a space but no number after it (number-empty), a space and a number, which
+-- takes one byte more with its space (number-here). A space that is present leaves at + 1 within the line (word-room).
 use borrow.Author.Needs.{needs}
 use native.Mathlib.Omega.{arith}
 use mathlib.Core.Path.{sym, _∙_}

@@ -1,3 +1,6 @@
+-- The invariant (NumeralTo): the digits before `i` say `value`, which is within the limit, and the digits from `i` on
+-- continue it. A turn takes in one more digit (numeral-more). Each return is one way to stop: the digits end
+-- (ended-below, ended-above, ended-line), a leading zero (zero-first), or a value over the limit (too-large).
 use borrow.Author.Needs.{needs}
 use native.Mathlib.Omega.{arith}
 use mathlib.Core.Logic.{⊎-elim}

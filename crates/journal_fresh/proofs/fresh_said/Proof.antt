@@ -1,3 +1,6 @@
+-- The invariant (SlotsTo): `count` routes were read up to `place`, the slots hold the first of them, and the text from
+-- `place` on has the others; `next` is the route at `place`. A turn stores the route where a slot is left (slots-set)
+-- and otherwise only counts it (slots-past); where no route follows, what was read is all.
 use borrow.Author.Needs.{needs}
 use native.Mathlib.Omega.{arith}
 use mathlib.Core.Path.{ap₂, _≡_, sym, _∙_, ap, subst}

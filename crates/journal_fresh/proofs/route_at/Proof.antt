@@ -1,3 +1,5 @@
+-- By cases on whether both fields are present: then the route is made of them (route-here), otherwise there is none
+-- (route-none). The zone fits 32 bits because it was read with that limit (number-within).
 use borrow.Author.Needs.{needs}
 use native.Mathlib.Omega.{arith}
 use mathlib.Core.Path.{sym, _∙_, ap, subst}

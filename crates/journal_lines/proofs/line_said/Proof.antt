@@ -1,3 +1,6 @@
+-- By cases on the verb, thirteen of them: in each the callee's contract is the rule for that verb and the text after
+-- it. The laws said-line, words-line and prices-line carry this over to the whole line; a list that the arm does not
+-- use is unchanged.
 use borrow.Author.Needs.{needs}
 use mathlib.Core.Path.{_∙_}
 use lib.ListN.{length}

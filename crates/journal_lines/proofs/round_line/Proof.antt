@@ -1,3 +1,5 @@
+-- By cases on whether the words go on to the line's end: then the line is a round, otherwise it is faulty (called,
+-- faulty). round-same says that the words read are the rule's; the list is as words_at ensures.
 use borrow.Author.Needs.{needs}
 use native.Mathlib.Omega.{arith}
 use mathlib.Core.Path.{_∙_}

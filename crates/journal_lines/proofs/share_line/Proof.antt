@@ -1,3 +1,6 @@
+-- By cases on the test of the fields: where it holds the line is the call that share_call gives, otherwise it is faulty
+-- (called, faulty). share-same says that the fields read one after another are the rule's; the list is as words_at
+-- ensures.
 use borrow.Author.Needs.{needs}
 use mathlib.Core.Path.{_∙_, ap}
 use lib.ListN.{drop, length}

@@ -1,3 +1,5 @@
+-- By cases on whether all of the bidder is 0: then the text is empty (bidder-none), otherwise it is one row, which
+-- completes the text (bidder-some). That the row fits the buffer is bidder-fits.
 use borrow.Author.Needs.{needs}
 use native.Mathlib.Omega.{arith}
 use mathlib.Core.Path.{refl, sym, _∙_}

@@ -1,3 +1,5 @@
+-- One row is the whole line, so put_last_row's contract is the result; the only need that is not automatic is that the
+-- row fits the buffer (entry-fits).
 use borrow.Author.Needs.{needs}
 use native.Mathlib.Omega.{arith}
 use Rattle.journal_states.proofs.StateLaws.{entry-fits}

@@ -1,3 +1,5 @@
+-- By cases on the direction: each arm writes one row with the rule's mark of that direction, and this row is the whole
+-- text, so one written piece completes it (written-done).
 use borrow.Author.Needs.{needs}
 use mathlib.Core.Path.{refl, sym, _∙_, ap}
 use mathlib.Core.List.{[], _∷_, append-nil}

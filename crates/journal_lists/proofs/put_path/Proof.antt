@@ -1,3 +1,5 @@
+-- Two pieces, the row with the path's number and then what put_offer writes, the second where the first ends
+-- (written-all); the whole line fits the buffer by path-fits.
 use borrow.Author.Needs.{needs}
 use native.Mathlib.Omega.{arith}
 use mathlib.Core.Path.{refl}

@@ -1,3 +1,6 @@
+-- Three cases: a minus sign with no number above 0 after it, which is no price (price-zero), a minus sign and a size
+-- (price-below), no minus sign (price-above). Each size was read with the limit priceTop, so the price fits with either
+-- sign.
 use borrow.Author.Needs.{needs}
 use native.Mathlib.Omega.{arith}
 use mathlib.Core.Path.{sym, _∙_, ap, subst}

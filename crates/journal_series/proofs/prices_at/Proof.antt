@@ -1,3 +1,6 @@
+-- The invariant (RunTo): `i` prices were read up to `place` and are at the front of the list, and the line from `place`
+-- on has the others. A turn adds one price (run-more); the loop stops where no price follows (run-ends) or the list is
+-- full (run-full).
 use borrow.Author.Needs.{needs}
 use native.Mathlib.Omega.{arith}
 use mathlib.Core.Path.{sym, _∙_, ap, subst}

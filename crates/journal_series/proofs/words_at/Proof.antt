@@ -1,3 +1,6 @@
+-- The invariant (RunTo): `i` words were read up to `place` and are at the front of the list, and the line from `place`
+-- on has the others. A turn adds one word (run-more), which fits 32 bits because it was read with that limit; the loop
+-- stops where no word follows (run-ends) or the list is full (run-full).
 use borrow.Author.Needs.{needs}
 use native.Mathlib.Omega.{arith}
 use mathlib.Core.Path.{sym, _∙_, ap, subst}

@@ -1,3 +1,5 @@
+-- By cases on the sign: a balance below 0 is the mark with a minus sign and then its size (account-debt), any other is
+-- one row (account-plain). The size that is written is natAbs of the balance, by size_of's contract.
 use borrow.Author.Needs.{needs}
 use native.Mathlib.Omega.{arith}
 use mathlib.Core.Path.{_≡_, refl, sym, _∙_, ap}

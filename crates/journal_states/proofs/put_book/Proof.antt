@@ -1,3 +1,5 @@
+-- The line is four pieces (book-pieces): the account, the entry count, the stage, byte 10. Each call writes the next
+-- piece where the one before it ends (written-on); the whole line fits the buffer by book-fits.
 use borrow.Author.Needs.{needs}
 use native.Mathlib.Omega.{arith}
 use mathlib.Core.Path.{_≡_, refl}

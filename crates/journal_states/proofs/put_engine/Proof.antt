@@ -1,3 +1,5 @@
+-- Two pieces, the release and then the rule edition with the line's end, the second written where the first ends
+-- (written-all); the whole line fits the buffer by engine-fits.
 use borrow.Author.Needs.{needs}
 use native.Mathlib.Omega.{arith}
 use mathlib.Core.Path.{refl}

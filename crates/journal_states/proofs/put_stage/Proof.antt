@@ -1,3 +1,5 @@
+-- By cases on the stage: idle is its mark alone, an open auction is what put_open writes. Either piece is the whole
+-- text, so one written piece completes it (written-done).
 use borrow.Author.Needs.{needs}
 use mathlib.Core.Path.{refl, sym, _∙_, ap}
 use mathlib.Core.List.{[], append-nil}

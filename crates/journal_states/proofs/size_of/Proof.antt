@@ -1,3 +1,6 @@
+-- By cases on the sign. Below 0 the code adds 1 before it turns the sign, so that the most negative number fits too:
+-- nearer-fits and opposite-fits say that both steps fit, opposite-size that the result is the size. From 0 on the
+-- number is its own size.
 use borrow.Author.Needs.{needs}
 use native.Mathlib.Omega.{arith}
 use mir.Facts.{toZ-ofZ}

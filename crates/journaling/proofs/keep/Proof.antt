@@ -1,3 +1,5 @@
+-- The invariant: a store does not change the buffer's length, so reading at `from + i`, which is below `filled`, and
+-- writing at `i` stay in range.
 use borrow.Author.Needs.{needs}
 use Prim.Native.Nat.{_-_}
 use mathlib.Core.Path.{_≡_}

@@ -1,3 +1,5 @@
+-- The slice that is passed on has exactly `filled` bytes (length-take-le), so the bound that run_lines ensures by the
+-- slice's length is the bound by `filled`.
 use borrow.Author.Needs.{needs}
 use native.Mathlib.Omega.{arith}
 use mathlib.Core.Path.{sym}

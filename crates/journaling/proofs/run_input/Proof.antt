@@ -1,3 +1,5 @@
+-- The invariant: the five arrays keep their lengths, and `filled` is less than the buffer's length. So what each call
+-- requires holds in each turn; the number of turns left is the measure.
 use borrow.Author.Needs.{needs}
 use Prim.Native.Nat.{_-_, _<_}
 use mathlib.Core.Path.{_≡_}

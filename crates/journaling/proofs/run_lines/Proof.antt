@@ -1,3 +1,5 @@
+-- The invariant: `at` is within the text, and register, words, prices and reply buffer keep their lengths, so what
+-- run_line requires holds in each turn. `at` moves past a whole line each turn, so the loop ends.
 use borrow.Author.Needs.{needs}
 use Prim.Native.Nat.{_-_, _≤_}
 use mathlib.Core.Path.{_≡_}

@@ -1,3 +1,6 @@
+-- Each part of the memory is the rule's: the book by lay_book's contract, the account, register, reply and count by
+-- answer_line's. The hard part is the room: answer_line is lent only its first WORD_ROOM words, and by laid-part a
+-- write to these is a write to the whole room.
 use mathlib.Core.List.{List, _++_}
 use Prim.Native.Nat.{ℕ}
 use lib.ListN.{length, take, drop}

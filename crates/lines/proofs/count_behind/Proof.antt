@@ -1,3 +1,6 @@
+-- By cases: a text shorter than the word, and one with other bytes in its place, have no such line (`word-short`,
+-- `no-word`); where the word is there, the line is the word and its count (`count-here`). The value is read in every
+-- case.
 use native.Mathlib.Omega.{arith}
 use mathlib.Core.Path.{sym, _∙_}
 use lib.ListN.{length}

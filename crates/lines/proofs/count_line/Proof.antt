@@ -1,3 +1,5 @@
+-- By cases on the section. In each case `count_behind` was called with that section's word, so its contract is the rule
+-- for the section, once the part is replaced by what the match says of it.
 use mathlib.Core.Path.{sym, _∙_, ap}
 use lib.ListN.{drop}
 use Rattle.lines.specs.Lines.{countUsed, countSaid}

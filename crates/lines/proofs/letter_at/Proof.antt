@@ -1,3 +1,5 @@
+-- By cases: fewer than two bytes hold no letter and space (`letter-short`); neither letter makes the rule's test false
+-- (`letter-other`); with the one letter or the other, the rule's test is the test of the second byte.
 use mathlib.Core.Logic.{⊎-elim}
 use Rattle.lines.proofs.LineLaws.{letter-short, letter-other, letter-one, letter-two}
 use borrow.Author.Needs.{needs}

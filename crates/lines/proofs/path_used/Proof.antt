@@ -1,3 +1,5 @@
+-- By cases on the path's number: another number makes the line faulty (`path-other`); with the right one the line is
+-- the number and the rest of the line after it (`path-here`), and no more bytes than the text has (`both-most`).
 use native.Mathlib.Omega.{arith}
 use mathlib.Core.Path.{_∙_}
 use Rattle.fields.proofs.ReadLaws.{both-most}

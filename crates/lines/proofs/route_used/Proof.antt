@@ -1,3 +1,5 @@
+-- By cases on the letter: without a direction and a space the rule says 0 (`route-missing`); with them two bytes are in
+-- the text (`letter-fits`), so the five numbers can be read after them, and the rule adds both parts (`route-here`).
 use native.Mathlib.Omega.{arith}
 use mathlib.Core.Path.{sym, _∙_}
 use borrow.Author.Tests.{not-true, not-false}

@@ -1,3 +1,6 @@
+-- By the tests in turn: without the word TRA and its space, or without a kind and its space, the title is faulty
+-- (`title-missing`, `kind-missing`). What was matched shows that the next place is inside the text; then the two days
+-- are read.
 use native.Mathlib.Omega.{arith}
 use mathlib.Core.Path.{sym, _∙_}
 use borrow.Author.Tests.{not-true, not-false}

@@ -1,3 +1,5 @@
+-- Each callee ensures one minimum or one difference of the rule, so rewriting by the six of them, from the outside in,
+-- makes the rule's number.
 use borrow.Author.Needs.{needs}
 use Rattle.offers.proofs.long_offer.Statement.{statement}
 use Rattle.offers.proofs.long_offer.Tie as tie

@@ -1,3 +1,4 @@
+-- By cases on the kind: S and L each have their callee, which ensures the rule's number for that kind.
 use borrow.Author.Needs.{needs}
 use Rattle.offers.proofs.offer.Statement.{statement}
 use Rattle.offers.proofs.offer.Tie as tie

@@ -1,3 +1,5 @@
+-- The index is below the book's count of paths, which is at most 16, so the read and the cast are within bounds
+-- (paths-within). Rewriting by what the three callees ensure makes the rule's path.
 use native.Mathlib.Omega.{arith}
 use Rattle.opened_paths.proofs.PathLaws.{paths-within}
 use borrow.Author.Needs.{needs}

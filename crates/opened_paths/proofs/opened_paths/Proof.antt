@@ -1,3 +1,5 @@
+-- The invariant: the slots are the book's with the first `i` paths opened by the rule; each turn opens one more
+-- (opened-more). The count is at most the number of slots, so each store is within them (paths-within).
 use mathlib.Core.Path.{_≡_, refl, sym, _∙_, ap}
 use mathlib.Core.List.{List}
 use Prim.Native.Nat.{_≤_, _-_}

@@ -1,3 +1,5 @@
+-- The code divides the length by the words of a path, the rule multiplies the count by them; omega shows that the two
+-- tests agree. Too short is the first row; otherwise the register's rows decide, as the callee ensures.
 use Prim.Native.Nat.{_≤_, _<_}
 use lib.ListN.{length}
 use Rattle.opened_paths.specs.OpenedPaths.{wordsNeeded}

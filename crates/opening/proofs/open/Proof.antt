@@ -1,3 +1,5 @@
+-- By cases on the refusal's number: any but 0 is the rule's refusal (refuses), 0 its answer (takes). Where no row
+-- holds, open-cleared gives the sound register and the length of the quantities, which opened_paths requires.
 use mathlib.Core.Path.{sym, _∙_, ap}
 use mathlib.Core.List.{List}
 use Rattle.market.proofs.Tables.{refuses, takes}

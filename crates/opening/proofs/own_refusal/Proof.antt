@@ -1,3 +1,5 @@
+-- One case for each row of the table: each callee decides one row's test, so what it ensures rewrites that row to true
+-- or false; in the last case every row is false.
 use mathlib.Core.Path.{sym, _∙_}
 use borrow.Author.Tests.{not-true, not-false}
 use borrow.Author.Needs.{needs}

@@ -1,3 +1,6 @@
+-- The table is the rows for what is lent and then open's own: a number of the first part is the whole table's
+-- (first-stands); where there is none open's own rows decide (second-decides), and the quantities are long enough
+-- (lent-cleared).
 use mathlib.Core.Path.{refl, sym, _∙_}
 use mathlib.Core.List.{_++_}
 use Rattle.market.proofs.Tables.{first-stands, second-decides}

@@ -1,3 +1,6 @@
+-- The invariant: the sum is what the first `i` entries count for, and at most the quantity limit for each of them. The
+-- next entry adds its part (outstanding-more); a sound entry's part is within the limit, so the sum fits a word
+-- (counted-bound).
 use Rattle.register.specs.Words.{entriesOf}
 use Rattle.register.specs.Entries.{countedOf, outstanding}
 use Rattle.market.specs.Books.{megawatts}

@@ -1,3 +1,6 @@
+-- By cases on the part of the table that gives the first number: the lent lists, the hour, the account (lent-decides,
+-- hour-decides, account-decides); in each the list is kept (list-stays). Where none does, the rule's answer is given
+-- and written (takes, list-changes). lent-cleared and prices-cleared give what the callees require.
 use mathlib.Core.Path.{_≡_, refl, sym, _∙_, ap}
 use mathlib.Core.Bool.{Bool, not, cond}
 use mathlib.Core.List.{List, _++_}

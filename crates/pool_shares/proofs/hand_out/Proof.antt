@@ -1,3 +1,6 @@
+-- The invariant (`Handed`): handing out the cents still to be given, from here, makes what the rule makes of all of
+-- them. Each turn takes one step of the rule (handed-next); the sums fit since shares and cents left stay within the
+-- pool's limit.
 use borrow.Author.Needs.{needs}
 use Prim.Native.Nat.{_+_, _-_, _≤_}
 use mathlib.Core.Path.{_≡_}

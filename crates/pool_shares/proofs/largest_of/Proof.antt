@@ -1,3 +1,6 @@
+-- The invariant (`Best`): no element before `i` is larger than the one at `best`, and each before `best` is smaller.
+-- The next element is larger and becomes the best (best-new), or it is not (best-kept); at the end the best is the
+-- rule's place (best-of-all).
 use borrow.Author.Needs.{needs}
 use Prim.Native.Nat.{_-_, _≤_, _<_}
 use native.Mathlib.Omega.{arith}

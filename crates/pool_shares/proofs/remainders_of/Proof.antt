@@ -1,3 +1,5 @@
+-- The invariant: the first `i` places hold the remainders of their weights and the rest are 0 (`filled`); each turn
+-- fills one more (fill-next). No weight is above the column's total, so the products fit (total-at).
 use borrow.Author.Needs.{needs}
 use Prim.Native.Nat.{ℕ, _-_, _≤_}
 use mathlib.Core.Path.{_≡_, refl, _∙_, ap}

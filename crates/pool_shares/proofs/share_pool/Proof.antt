@@ -1,3 +1,5 @@
+-- With no weight the pool is empty and every share is 0 (nothing). Otherwise the whole cents are within the pool, so
+-- what is left does not go below 0 (within), and the four steps together are the rule (shared).
 use borrow.Author.Needs.{needs}
 use native.Mathlib.Omega.{arith}
 use Rattle.market.specs.Limits.{bidderLimit}

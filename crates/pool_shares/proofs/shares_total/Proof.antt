@@ -1,3 +1,5 @@
+-- The invariant (`Summed`): the sum so far plus the shares from `i` on is the total of the list; each turn moves one
+-- share over (summed-next). So the sum never passes that total, which is within the pool's limit.
 use borrow.Author.Needs.{needs}
 use Prim.Native.Nat.{_-_, _≤_}
 use native.Mathlib.Omega.{arith}

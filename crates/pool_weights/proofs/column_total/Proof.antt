@@ -1,3 +1,5 @@
+-- The invariant (`Summed`): the sum so far plus the elements from `bidder` on is the total of the column; each turn
+-- moves one element over (summed-next). The sum fits since each of the 32 elements is below 2^32.
 use mir.Syntax.{w32}
 use mir.Val.{Fits}
 use lib.ListN.{getD}

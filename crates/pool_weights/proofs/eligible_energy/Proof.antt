@@ -1,3 +1,5 @@
+-- The invariant: each place before `i` holds the weight of its participant, and one more store keeps that
+-- (stored-next). At the end every place does, so the list is the rule's (all-eligible).
 use borrow.Author.Needs.{needs}
 use Prim.Native.Nat.{ℕ, _-_, _≤_, _<_}
 use mathlib.Core.Path.{_≡_}

@@ -1,3 +1,5 @@
+-- The invariant: each place before `i` holds the sum of the two shares, and one more store keeps that (stored-next). At
+-- the end the list is the rule's (all-together). No share is above its list's total, so the sums fit.
 use borrow.Author.Needs.{needs}
 use Prim.Native.Nat.{ℕ, _+_, _-_, _≤_, _<_}
 use mathlib.Core.Path.{_≡_, refl}

@@ -1,3 +1,4 @@
+-- Each of the four callees ensures the total of its column, so rewriting by them makes the rule's conjunction.
 use borrow.Author.Needs.{needs}
 use Rattle.pools.proofs.columns_within.Statement.{statement}
 use Rattle.pools.proofs.columns_within.Tie as tie

@@ -1,3 +1,5 @@
+-- The total is within the pool's limit and the column within its own, so their product fits a word (product-within);
+-- all charges are above 0, so the division is defined. The two callees ensure the rule's numbers.
 use native.Mathlib.Omega.{arith}
 use Rattle.sharing.proofs.Loops.{product-within}
 use Rattle.pools.proofs.ColumnLaws.{totals-within}

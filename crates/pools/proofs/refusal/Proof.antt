@@ -1,3 +1,6 @@
+-- One case for each row of the table: each callee decides one row's test, and the case's law of ColumnLaws says which
+-- number the table then gives (is-beyond to is-shared). The provincial pool is within the total, so the rest is not
+-- below 0.
 use mathlib.Core.Path.{sym, _∙_, ap}
 use mathlib.Core.Bool.{true, false}
 use Prim.Native.Nat.{ℕ, _-_}

@@ -1,3 +1,5 @@
+-- Where the columns are not refused both pools can be shared (provincial-ready, export-ready), which gives what the
+-- callees require; the results of the steps together are the rule's (shared).
 use Prim.Native.Nat.{_-_}
 use native.Mathlib.Omega.{arith}
 use Rattle.pools.proofs.ColumnLaws.{pool-within, shareable}

@@ -1,3 +1,6 @@
+-- The invariant: the deposits of all lines are those of the lines from `i` on, made from the book `now`, and that book
+-- is sound. A refused line ends both code and rule (`line-refused`); an answered one goes on (`line-made`) and keeps
+-- the book sound.
 use mathlib.Core.Path.{_≡_, sym, subst}
 use lib.ListN.{length, getD}
 use Rattle.market.specs.declared.answer.Outcome.{Outcome}

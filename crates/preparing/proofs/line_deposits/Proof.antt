@@ -1,3 +1,5 @@
+-- By cases on the cash deposit: refused, it is the answer of the line (`cash-refused`); answered, the letter's deposit
+-- follows (`cash-made`). The book after the cash deposit is sound (`deposit-if-keeps`), which the second call requires.
 use mathlib.Core.Path.{sym, _∙_, subst}
 use Rattle.market.specs.declared.answer.Outcome.{Outcome}
 use Rattle.funding.specs.declared.Funds.the-variants.{Cash}

@@ -1,3 +1,5 @@
+-- Each field is read where the one before it ends, as the rule reads the three numbers of the line; `bidder-said` puts
+-- the three contracts of `field_at` together.
 use Rattle.reading.proofs.SaidLaws.{bidder-said}
 use borrow.Author.Needs.{needs}
 use Rattle.reading.proofs.bidder_at.Statement.{statement}

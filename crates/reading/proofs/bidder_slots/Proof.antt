@@ -1,3 +1,5 @@
+-- The invariant (`SlotsTo`): the first `i` slots hold the section's first `i` lines, the others are empty, and the
+-- lines still to come are those at `place`. Each turn reads one line (`one-slotted`).
 use borrow.Author.Needs.{needs}
 use Prim.Native.Nat.{_-_}
 use native.Mathlib.Omega.{arith}

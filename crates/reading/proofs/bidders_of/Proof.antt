@@ -1,3 +1,5 @@
+-- The two fields of the result apart: the count is that of the section (`section-count`), and the slots hold all of its
+-- lines (`section-slots`), since the caller has shown that they are at most as many as the slots.
 use mathlib.Core.Path.{ap₂}
 use mathlib.Core.List.{List}
 use Prim.Native.Nat.{ℕ}

@@ -1,3 +1,5 @@
+-- Each number is read where the one before it ends, as the rule reads the five numbers of the line; `path-said` puts
+-- the five contracts of `word_at` together.
 use Rattle.reading.proofs.SaidLaws.{path-said}
 use borrow.Author.Needs.{needs}
 use Rattle.reading.proofs.numbers_at.Statement.{statement}

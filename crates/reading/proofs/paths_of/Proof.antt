@@ -1,3 +1,5 @@
+-- The two fields of the result apart: the count is that of the section (`section-count`), and the slots hold its lines
+-- up to the number of slots (`section-capped`), which is what `slotted` counted.
 use mathlib.Core.Path.{ap₂}
 use mathlib.Core.List.{List}
 use Prim.Native.Nat.{ℕ}

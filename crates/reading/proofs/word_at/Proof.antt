@@ -1,3 +1,5 @@
+-- A field read up to `wordTop` has a value of at most that (`field-within`), so the cast to 32 bits keeps it; the rest
+-- is the contract of `field_at`, field by field.
 use native.Mathlib.Omega.{arith}
 use mathlib.Core.Path.{ap}
 use Rattle.fields.proofs.ReadLaws.{field-within}

@@ -1,3 +1,5 @@
+-- Writing the counted entries back where they were changes nothing (written-back), so the words are those entries
+-- written, and a put right after them appends one entry (put-next).
 use mathlib.Core.Path.{sym, _∙_, ap}
 use Prim.Native.Nat.{ℕ}
 use native.Mathlib.Omega.{arith}

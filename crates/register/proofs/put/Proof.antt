@@ -1,3 +1,5 @@
+-- The six stores in a row replace the six words at the entry's place by those of the entry (six-stores). A store keeps
+-- the length of the words, so each later store is within them too.
 use native.Mathlib.Omega.{arith}
 use Prim.Native.Nat.{_*_}
 use lib.ListN.{length-set}

@@ -1,3 +1,6 @@
+-- One case for each `return`: a register that is too short makes row 1 hold, a book or a counted entry that is not
+-- sound makes row 2 hold. The length and the book's count, both tested before, give the room that sound_entries
+-- requires.
 use mathlib.Core.Path.{sym, _∙_}
 use native.Mathlib.Omega.{arith}
 use borrow.Author.Tests.{not-true, not-false, lt-ltb, le-ltb}

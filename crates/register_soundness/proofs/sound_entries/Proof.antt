@@ -1,3 +1,6 @@
+-- The invariant (`Passed`): testing all counted entries comes to testing those from `i` on, since all before passed.
+-- The entry read at `i` is the list's (entries-at): unsound it fails the whole test (fail), sound it moves `i` on
+-- (pass), and after the last nothing is left (passed).
 use Rattle.register.specs.Words.{entriesOf, entryAt}
 use borrow.Author.Needs.{needs}
 use mathlib.Core.Path.{refl, sym, _∙_, ap}

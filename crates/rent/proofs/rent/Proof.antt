@@ -1,3 +1,5 @@
+-- By cases on the refusal's number: any but 0 is the rule's refusal (refuses), 0 its answer (takes). Where no row
+-- holds, rent-cleared gives the sound book and the bound on the amount that with_rent requires.
 use mathlib.Core.Path.{sym, _∙_, ap}
 use Rattle.rent.proofs.Cleared.{rent-cleared}
 use Rattle.market.proofs.Tables.{refuses, takes}

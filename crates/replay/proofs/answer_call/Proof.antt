@@ -1,3 +1,5 @@
+-- By cases on whether the call is a round: either way the two lists are as long as the rule lends for this call, so
+-- what answer_lent ensures is what the rule's call leaves (left-same).
 use borrow.Author.Needs.{needs}
 use mathlib.Core.Path.{sym, _∙_, ap}
 use mathlib.Core.Bool.{Bool, true, false, cond}

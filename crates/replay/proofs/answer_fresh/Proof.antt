@@ -1,3 +1,6 @@
+-- Three ways out: a malformed line is turned away (fresh-away); the engine refuses the routes and the journal stays
+-- (fresh-kept); the engine answers and its book is taken (fresh-taken). No fresh book answers bids, so its reply needs
+-- no list (fresh-none).
 use borrow.Author.Needs.{needs}
 use native.Mathlib.Omega.{arith}
 use Rattle.journal_fresh.specs.FreshLines.{freshSaid}

@@ -1,3 +1,6 @@
+-- A straight line: call_lent leaves what the rule's step leaves, and put_answer writes its text, which is the rule's
+-- (call-text). The hard need is that the list has room for the answers of all bids that the answer tells of
+-- (answers-fit).
 use borrow.Author.Needs.{needs}
 use mathlib.Core.Bool.{true}
 use mathlib.Core.Path.{_∙_, ap}

@@ -1,3 +1,6 @@
+-- By cases on the first word: a line that begins with `fresh` neither uses nor changes the register (fresh-journal,
+-- fresh-text, fresh-register), and its lists stay; any other is answer_said's. line-fresh and line-said say that both
+-- are the rule's step.
 use borrow.Author.Needs.{needs}
 use mathlib.Core.Bool.{Bool, cond}
 use Rattle.market.specs.Limits.{zones}
@@ -22,7 +25,7 @@ slice-aggregate-starts-with c = search needs
 starts-with-requires : tie.Need-starts-with-requires
 starts-with-requires c κs = search needs
 
--- a list with a line's own numbers at its front, where it is not that of a fresh book
+-- a list with the line's own numbers at its front, where the line is not that of a fresh book
 abbrev own : {X : Type 0} → List X → List X → Bool → List X
 own xs list t = laid (cond t [] xs) list
 

@@ -1,3 +1,5 @@
+-- By cases on whether there is a book: without one turn_away's contract is the rule's step, with one answer_call's is,
+-- on the first `count` words and the first `priced` prices.
 use borrow.Author.Needs.{needs}
 use mathlib.Core.Path.{sym, _∙_, ap}
 use mathlib.Core.Bool.{Bool}

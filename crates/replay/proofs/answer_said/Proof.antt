@@ -1,3 +1,5 @@
+-- By cases on what the line says: a faulty line is turned away (said-away); a call is run on the words and prices that
+-- were just read, which are at the front of the two lists (words-room, prices-room, said-called).
 use borrow.Author.Needs.{needs}
 use mathlib.Core.Path.{_∙_, ap}
 use lib.ListN.{length}

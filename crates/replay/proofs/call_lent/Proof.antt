@@ -1,3 +1,5 @@
+-- The four columns are the rule's by column's contract, so the engine is lent what the rule lends (lent-same), and each
+-- of the five things that its contract ensures is the rule's.
 use borrow.Author.Needs.{needs}
 use mathlib.Core.Path.{_∙_, ap}
 use Rattle.engine.specs.Lent.{Lent}

@@ -1,3 +1,5 @@
+-- Three cases by the list's length: it ends before the column begins (column-none), inside the column (column-short),
+-- or at its end or later (column-whole).
 use borrow.Author.Needs.{needs}
 use Rattle.replay.proofs.ColumnLaws.{column-none, column-short, column-whole}
 use Rattle.replay.proofs.column.Statement.{statement}

@@ -1,3 +1,5 @@
+-- The one need that is not automatic is what magnitude requires, a sound balance: an unsound one has returned before
+-- that call, so the test of soundness was true.
 use mathlib.Core.Path.{sym, _∙_}
 use borrow.Author.Tests.{not-false}
 use borrow.Author.Needs.{needs}

@@ -1,3 +1,5 @@
+-- The table is the register's rows and then one for the day: a number of the first part is the whole table's
+-- (first-stands); where there is none the day's row decides (second-decides), which the second `if` tests.
 use mathlib.Core.Path.{refl, sym, _∙_, ap}
 use mathlib.Core.Bool.{Bool, not, cond}
 use borrow.Author.Tests.{le-leb, lt-leb}

@@ -1,3 +1,6 @@
+-- By cases on the refusal's number: any but 0 is the rule's refusal and leaves the words (refuses, list-stays), 0 its
+-- answer with the ended entries removed (takes, list-changes). Where no row holds, the words have room for the counted
+-- entries, which `remove` requires (register-cleared).
 use mathlib.Core.Path.{refl, sym, _∙_, ap}
 use lib.ListN.{length}
 use Rattle.market.proofs.Tables.{neither-holds, refuses, takes, list-stays, list-changes}

@@ -1,3 +1,6 @@
+-- The tables of `award_bids` are the rule's, since the marks are the rule's padded with 0 and padding changes no award
+-- (`awards-are`). With that put in, each callee's result is the rule's part, and `RoundBounds` gives the bounds on MW
+-- and prices that the callees require.
 use native.Mathlib.Omega.{arith}
 use mathlib.Core.Path.{_∙_, ap, ap₂}
 use mathlib.Core.List.{List, _++_}

@@ -1,3 +1,6 @@
+-- Three ways out: refused before the awards (`early-refused`), refused because the winners do not fit (`full`), or
+-- answered (`answers-all`). Without an early refusal everything holds that the later calls require
+-- (`early-cleared`).
 use mathlib.Core.Path.{sym, _∙_}
 use borrow.Author.Tests.{not-true, not-false, leb-true}
 use lib.ListN.{length}

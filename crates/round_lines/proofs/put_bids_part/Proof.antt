@@ -1,3 +1,5 @@
+-- A text in two pieces, the count line and the lines of the bids. `bid_count` gives the number that the rule's count
+-- line says, and each piece is written where the one before it ends (`written-on`, then `written-all`).
 use borrow.Author.Needs.{needs}
 use mathlib.Core.Path.{sym, ap}
 use mathlib.Core.List.{_++_}

@@ -1,3 +1,5 @@
+-- A text in two pieces, the count line and the lines of the paths: each is written where the one before it ends, first
+-- by `written-on`, which leaves the room that the second needs, and then by `written-all`.
 use borrow.Author.Needs.{needs}
 use mathlib.Core.Path.{refl}
 use Rattle.fields.specs.Fields.{countLine}

@@ -1,3 +1,5 @@
+-- A text in three pieces, bids, paths and awards (`round-pieces`): the first two are added by `written-on`, which
+-- leaves the room that the next one needs, and the last by `written-all`.
 use borrow.Author.Needs.{needs}
 use mathlib.Core.Path.{refl}
 use mathlib.Core.List.{_++_}

@@ -1,3 +1,6 @@
+-- By cases: the first round is refused (`first-refused`), the second is (`second-refused`), or both are answered
+-- (`two-done`). `second-is`: the second call, with the book and the register that the first left, is the rule's second
+-- round.
 use borrow.Author.Needs.{needs}
 use mathlib.Core.Path.{sym, _∙_, ap}
 use native.Mathlib.Omega.{arith}

@@ -1,3 +1,5 @@
+-- One call of `round`: its scratch has the length and the zeros of the rule's, so what it ensures of outcome, register
+-- and both lists of answers is what is asked here; what it says of the scratch is left out.
 use borrow.Author.Needs.{needs}
 use Rattle.round_output.proofs.round_of.Statement.{statement}
 use Rattle.round_output.proofs.round_of.Tie as tie

@@ -1,3 +1,5 @@
+-- By cases: the round is refused, and the output is its number (`one-refused`), or it is answered, and `one-done` gives
+-- all that `put_one` requires, that the sheet fits the buffer above all, and that the sheet is the output.
 use borrow.Author.Needs.{needs}
 use mathlib.Core.Path.{sym, _∙_, ap}
 use native.Mathlib.Omega.{arith}

@@ -1,3 +1,5 @@
+-- By cases on the kind, and for a long auction on whether the round is the first: the rule's test is then decided, and
+-- each side is the same stage.
 use borrow.Author.Tests.{eq-eqb, ne-eqb}
 use borrow.Author.Needs.{needs}
 use Rattle.round_stage.proofs.after.Statement.{statement}

@@ -1,3 +1,5 @@
+-- Two pieces, one space and then the digits: the stored byte is the first piece (put-byte), and put_number's contract
+-- writes the second after it (written-all).
 use borrow.Author.Needs.{needs}
 use mathlib.Core.Path.{refl, _∙_}
 use mathlib.Core.List.{[], _∷_}

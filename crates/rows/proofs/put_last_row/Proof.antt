@@ -1,3 +1,5 @@
+-- Two pieces, the row and then byte 10: each call's contract adds its piece to what is written so far (written-on), and
+-- the byte completes the line (written-all).
 use borrow.Author.Needs.{needs}
 use mathlib.Core.Path.{refl}
 use mathlib.Core.List.{[], _∷_}

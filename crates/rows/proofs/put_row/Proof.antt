@@ -1,3 +1,5 @@
+-- Two pieces, the mark and then the numbers: each call's contract adds its piece to what is written so far
+-- (written-on), and the second piece completes the row (written-all).
 use borrow.Author.Needs.{needs}
 use mathlib.Core.Path.{refl}
 use mathlib.Core.List.{_++_}

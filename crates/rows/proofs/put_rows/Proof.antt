@@ -1,3 +1,6 @@
+-- The invariant: what is written so far, followed by the rows of the numbers from `from` on, is the whole text
+-- (WrittenTo), and the list still has the numbers of the `count - k` rows to come. Each turn moves one row over
+-- (rows-next) and uses up `size` numbers (one-less).
 use borrow.Author.Needs.{needs}
 use native.Mathlib.Omega.{arith}
 use mathlib.Core.Path.{_≡_, sym, ap, subst}

@@ -1,3 +1,6 @@
+-- The invariant: what is written so far, followed by the numbers from `i` on with a space before each, is the whole
+-- text (WrittenTo). Each turn moves number `i` from the rest to the written part (spaced-next); at the end no number is
+-- left (spaced-none).
 use borrow.Author.Needs.{needs}
 use mathlib.Core.List.{_∷_}
 use Prim.Native.Nat.{_+_, _-_, _≤_}

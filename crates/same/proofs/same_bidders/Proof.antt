@@ -1,3 +1,4 @@
+-- Nothing is ensured of the result, so the invariant only keeps `i` within the 32 bidders, and both reads are in range.
 use borrow.Author.Needs.{needs}
 use Prim.Native.Nat.{_≤_, _-_}
 use Rattle.same.proofs.same_bidders.Statement.{statement}

@@ -1,3 +1,5 @@
+-- Nothing is ensured of the sum, which wraps, so the invariant only keeps `at` within the list, and each read is in
+-- range.
 use borrow.Author.Needs.{needs}
 use Prim.Native.Nat.{_≤_, _-_}
 use lib.ListN.{length}

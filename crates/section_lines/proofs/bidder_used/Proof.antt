@@ -1,3 +1,5 @@
+-- By cases on the bidder's number: one below the least allowed and one that is no bidder's are both faulty
+-- (`bidder-low`, `bidder-high`); any other leaves the three numbers of the line (`bidder-here`).
 use native.Mathlib.Omega.{arith}
 use lib.ListN.{drop}
 use Rattle.section_lines.proofs.BidderLaws.{bidder-low, bidder-high, bidder-here}

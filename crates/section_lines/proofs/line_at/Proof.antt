@@ -1,3 +1,5 @@
+-- By cases on the section: each arm returns what its callee ensures, which is the rule's step for that section, once
+-- the part is replaced by what the match says of it. `field-within` shows that a bidder's number plus 1 does not wrap.
 use native.Mathlib.Omega.{arith}
 use Prim.Native.Nat.{ℕ, _+_}
 use mathlib.Core.Path.{sym, _∙_, ap, ap₂}

@@ -1,3 +1,5 @@
+-- The invariant: `offered` has what the round offers of the first `i` paths, and 0 after them (`filled`); each turn
+-- fills one more place (`fill-next`).
 use borrow.Author.Needs.{needs}
 use native.Mathlib.Omega.{arith}
 use mathlib.Core.Path.{_≡_, refl, _∙_, ap}

@@ -1,3 +1,6 @@
+-- The invariant: `next` has the first `i` paths with what the round sold added, and the others as they were
+-- (`soldTo`); each turn replaces one path (`sold-next`). Both quantities added are within the limit, which `every`
+-- says of each place.
 use borrow.Author.Needs.{needs}
 use native.Mathlib.Omega.{arith}
 use mathlib.Core.Path.{_≡_, refl, sym, _∙_, ap}

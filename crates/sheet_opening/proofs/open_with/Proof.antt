@@ -1,3 +1,5 @@
+-- No branch: the quantities of all slots are cut to the paths counted, which are no more than the slots
+-- (`counted-words`), and so `open` is called with exactly the arguments of the rule (`open-is`).
 use borrow.Author.Needs.{needs}
 use Rattle.sheet_opening.proofs.OpeningLaws.{counted-words, open-is}
 use Rattle.sheet_opening.proofs.open_with.Statement.{statement}

@@ -1,3 +1,6 @@
+-- By cases on the refusals: a refused fresh book (`book-refused`) or refused deposits (`deposits-refused`) are the
+-- answer; else open follows (`deposits-made`). That `fresh` answered gives the sound book and the few paths that the
+-- later calls require.
 use mathlib.Core.Path.{sym, _∙_, ap, subst}
 use Rattle.market.specs.Answers.{answerNumber}
 use Rattle.market.specs.declared.answer.Outcome.{Outcome}

@@ -1,3 +1,5 @@
+-- By cases on the round: at 1, at 2 and at any other, the rule's two implications come to what that branch returns
+-- (at-first, at-second, at-neither).
 use borrow.Author.Needs.{needs}
 use mathlib.Core.Path.{_∙_}
 use Rattle.soundness.proofs.RoundLaws.{at-first, at-second, at-neither}

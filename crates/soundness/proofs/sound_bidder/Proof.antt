@@ -1,3 +1,5 @@
+-- A bidder that does not fit the round makes the rule's conjunction false (unfit); one that does leaves the bounds,
+-- which the code tests in the rule's order (fit).
 use borrow.Author.Needs.{needs}
 use borrow.Author.Tests.{not-true, not-false}
 use mathlib.Core.Path.{sym, _∙_}

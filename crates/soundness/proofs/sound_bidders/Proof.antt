@@ -1,3 +1,6 @@
+-- The invariant (`Passed`): testing all bidders comes to testing those from `i` on, since all before passed. An unsound
+-- bidder fails the whole test (fail), a sound one moves `i` on (pass), and after the last nothing is left to test
+-- (passed).
 use mathlib.Core.Path.{refl, sym, _∙_}
 use borrow.Author.Tests.{not-true, not-false}
 use Rattle.market.specs.Books.{noBidder}

@@ -1,3 +1,5 @@
+-- A bad path count makes the first part of the rule's conjunction false. Otherwise each callee's result is one part of
+-- `soundBook`, and the good count gives the bound that sound_paths requires (count-within).
 use Rattle.market.proofs.SoundLaws.{count-within}
 use Rattle.market.specs.Sound.{soundBook}
 use mathlib.Core.Path.{sym, _∙_}

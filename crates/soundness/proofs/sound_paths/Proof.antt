@@ -1,3 +1,6 @@
+-- The invariant (`Passed`): testing the first `count` paths comes to testing those from `i` on, since all before
+-- passed. An unsound path fails the whole test (fail-first), a sound one moves `i` on (pass-first); at the end none is
+-- left (passed-first).
 use mathlib.Core.Path.{refl, sym, _∙_}
 use borrow.Author.Tests.{not-true, not-false}
 use Rattle.market.specs.Books.{noPath}

@@ -1,3 +1,5 @@
+-- By cases on the stage: idle is sound by definition; for open, the rule is the conjunction of what the two callees
+-- ensure.
 use borrow.Author.Needs.{needs}
 use Rattle.soundness.proofs.sound_stage.Statement.{statement}
 use Rattle.soundness.proofs.sound_stage.Tie as tie

@@ -1,3 +1,5 @@
+-- With what `least` ensures put in twice, the record is the rule's by definition; what is owed and the charges are
+-- both bounded, so their sum fits.
 use native.Mathlib.Omega.{arith}
 use Prim.Native.Nat.{_*_}
 use borrow.Author.Tests.{leb-true}

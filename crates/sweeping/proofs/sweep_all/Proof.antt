@@ -1,3 +1,5 @@
+-- The invariant: `next` has the first `i` bidders billed and the others as they were (`sweptTo`); each turn bills one
+-- more (`swept-next`), and the bounds hold for every bidder and every charge.
 use borrow.Author.Needs.{needs}
 use native.Mathlib.Omega.{arith}
 use mathlib.Core.Path.{_≡_, refl, _∙_, ap}

@@ -1,3 +1,6 @@
+-- The invariant (`CountedTo`): the digits at `at` are the `i - at` bytes passed and then the digits at `i`. A digit is
+-- passed by `counted-one`; at the text's end or at another byte no digits follow, so `i - at` is the count
+-- (`counted-all`).
 use Rattle.text.proofs.DecimalLaws.{is-digit}
 use native.Mathlib.Omega.{arith}
 use borrow.Author.Needs.{needs}

@@ -1,3 +1,5 @@
+-- The invariant (`DigitsTo`): `digits` and the length of `decimal left` are together one more than the length of
+-- `decimal n`. A division by 10 takes one digit from `left` and adds one to `digits`; below 10 one digit is left.
 use native.Mathlib.Omega.{arith}
 use borrow.Author.Needs.{needs}
 use Rattle.text.proofs.PutLaws.{DigitsTo, digits-one, digits-all, digits-few}

@@ -1,3 +1,5 @@
+-- By the tests in turn: no digit, more than 13 digits, and a zero before another digit are no number (`none-here`,
+-- `long-here`, `zero-here`). Otherwise the digits are right, and `value_at` gives their value (`number-here`).
 use native.Mathlib.Omega.{arith}
 use borrow.Author.Needs.{needs}
 use mathlib.Core.Logic.{⊎-elim}

@@ -1,3 +1,5 @@
+-- The invariant: the buffer is the one lent with the first `i` bytes pasted in at `at`. Each store pastes one byte more
+-- (`copy-one`), and all of them pasted are `putAt` (`copy-all`).
 use native.Mathlib.Omega.{arith}
 use borrow.Author.Needs.{needs}
 use mathlib.Core.Path.{_≡_, _∙_, ap}

@@ -1,3 +1,6 @@
+-- The invariant (`PutTo`): the digits already written, from the back, are what `decimal n` has after `decimal left`,
+-- and `i` is where the last digit of `left` goes. Each turn moves that digit over (`put-one`); the digit of a `left`
+-- below 10 ends it (`put-all`).
 use native.Mathlib.Omega.{arith}
 use borrow.Author.Needs.{needs}
 use Rattle.text.proofs.DecimalLaws.{decimal-some}

@@ -1,3 +1,6 @@
+-- The invariant (`ValueTo`): the value so far, continued with the digits from `at + i` on, is the value of all digits,
+-- and it is below 10 to the power `i`. With at most 13 digits that bound keeps every sum within 64 bits
+-- (`value-small`).
 use native.Mathlib.Omega.{arith}
 use borrow.Author.Needs.{needs}
 use Prim.Native.Nat.{_-_, _≤_}

@@ -1,3 +1,6 @@
+-- Three ways out, in the order of the refusals: a buffer is short (line-short), the words encode no book
+-- (line-unsound), the line is run (line-run). Where no buffer is short, `enough` gives what the callees require. That
+-- the words then hold the journal's state is line-held, from the fit that run ensures.
 use native.Mathlib.Omega.{arith}
 use mir.Facts.{toZ-ofZ}
 use mir.Syntax.{w64}

@@ -1,3 +1,5 @@
+-- By cases: where there is room for all bids there is room for the winners, since no more bids win than there are
+-- (`winners-within`); otherwise they are counted, and `leb-left` moves the entries to the other side of the test.
 use native.Mathlib.Omega.{arith}
 use mathlib.Core.Path.{sym, _∙_, ap}
 use Prim.Native.Nat.{ℕ, _+_, _-_}

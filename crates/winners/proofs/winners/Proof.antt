@@ -1,3 +1,5 @@
+-- The invariant: `sum` is the number of winners among the first `k` bids; each turn adds 1 or 0 for bid `k`
+-- (`winners-next`), and the sum is at most `k`, so it fits.
 use borrow.Author.Needs.{needs}
 use native.Mathlib.Omega.{arith}
 use mathlib.Core.Path.{_≡_, refl, _∙_, ap}

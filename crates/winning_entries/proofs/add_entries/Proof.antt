@@ -1,3 +1,6 @@
+-- The invariant (`AddedTo`): the register is the old one with the entries of the winners among the first `k` bids
+-- written after the counted ones, and those of the bids left are still to come. `one-added` adds the bid at `at` if it
+-- won; the room for all entries leaves room for this one (`room-here`).
 use borrow.Author.Needs.{needs}
 use native.Mathlib.Omega.{arith}
 use mathlib.Core.Path.{_≡_, refl, _∙_, ap}

@@ -1,3 +1,5 @@
+-- By cases on the MW: with none, `ifWon` is empty and writing the counted entries back changes nothing (`none-won`);
+-- with some, it is this one entry, and `append` wrote it.
 use native.Mathlib.Omega.{arith}
 use mathlib.Core.Path.{sym, _∙_, ap}
 use mathlib.Core.List.{List, _++_}

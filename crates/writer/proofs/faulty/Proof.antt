@@ -1,4 +1,5 @@
--- A faulty sheet is refused: the writer is opened, `put_faulty` writes into its buffer, its length is stored as the new count, and the writer is closed.
+-- A faulty sheet is refused: the writer is opened, `put_faulty` writes into its buffer, the line's length is stored as
+-- the new count, and the writer is closed.
 use mathlib.Core.Path.{refl}
 use Prim.Native.Nat.{ℕ}
 use mathlib.Core.List.{[], _∷_, List}
@@ -50,7 +51,7 @@ use Rattle.writer.proofs.faulty.Code as code
 abbrev WriterS : Slot 2
 WriterS = plain (λ κs. T.the-row (namedLft 2 1 tt κs))
 
--- in the end the writer is had, and nothing else is owed
+-- in the end the writer is given back, and nothing else has to be
 abbrev stayed : Stays (faulty.ended .signature .params) (faulty.ended .kept)
 stayed = (stay-ref (0 ∷ []) tt WriterS, (stay-dropped (plain (λ _. u32)) yes, tt))
 

@@ -1,4 +1,5 @@
--- A refusal is written: the writer is opened, `put_refused` writes into its buffer, its length is stored as the new count, and the writer is closed.
+-- A refusal is written: the writer is opened, `put_refused` writes into its buffer, the line's length is stored as the
+-- new count, and the writer is closed.
 use mathlib.Core.Path.{refl}
 use Prim.Native.Nat.{ℕ}
 use mathlib.Core.List.{[], _∷_, List}
@@ -49,7 +50,7 @@ use Rattle.writer.proofs.refused.Code as code
 abbrev WriterS : Slot 2
 WriterS = plain (λ κs. T.the-row (namedLft 2 1 tt κs))
 
--- in the end the writer is had, and nothing else is owed
+-- in the end the writer is given back, and nothing else has to be
 abbrev stayed : Stays (refused.ended .signature .params) (refused.ended .kept)
 stayed = (stay-ref (0 ∷ []) tt WriterS, (stay-dropped (plain (λ _. u32)) yes, tt))
 

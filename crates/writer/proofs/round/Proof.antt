@@ -1,4 +1,5 @@
--- A round is written: the writer is opened, `put_round` writes into its buffer, the place behind is stored as the new count, and the writer is closed.
+-- A round is written: the writer is opened, `put_round` writes into its buffer, the place after the round is stored as
+-- the new count, and the writer is closed.
 use mathlib.Core.Path.{refl, ap}
 use Prim.Native.Nat.{ℕ}
 use mathlib.Core.List.{[], _∷_, List}
@@ -53,11 +54,12 @@ use Rattle.writer.proofs.round.Code as code
 abbrev WriterS : Slot 5
 WriterS = plain (λ κs. T.the-row (namedLft 5 1 tt κs))
 
--- in the end the writer is had, and nothing else is owed
+-- in the end the writer is given back, and nothing else has to be
 abbrev stayed : Stays (round.ended .signature .params) (round.ended .kept)
 stayed = (stay-ref (0 ∷ []) tt WriterS, (stay-dropped (shrSliceOf (2 ∷ []) tt (plain (λ _. u32))) yes, (stay-dropped (shrSliceOf (3 ∷ []) tt (plain (λ _. u64))) yes, (stay-dropped (shrSliceOf (4 ∷ []) tt (plain (λ _. u64))) yes, (stay-dropped (plain (λ _. usize)) yes, tt)))))
 
--- the code, run on any values of the right types: the writer is opened, `put_round` is called, its answer is stored, and the writer is closed
+-- the code, run on any values of the right types: the writer is opened, `put_round` is called, its answer is stored, and the
+-- writer is closed
 module _ {M : Type 1} (𝓤 : URA M) (H : Heap 𝓤) (A : Atoms 𝓤) (W : Given 𝓤 H A) (L : Loan) (Tokens : SProp 𝓤) (Rest : Fml) (Needs : SProp 𝓤) (next : Writer) (Post : Val → SProp 𝓤) (bids answers results paths : Val) where
   walk : (C : Calls 𝓤 H) (Λ : Loops 𝓤 H) → FmC 𝓤 H (W .laws) C → lent.Writes L 𝓤 H A Tokens next C #put (lent.slice L ∷ vint w64 (L .writer .now .filled) ∷ bids ∷ answers ∷ results ∷ paths ∷ []) Rest Needs → lent.Ends L 𝓤 H A Tokens next Post
       → Typed (ShrSlice (named 2) [] u32 .mir) (bids ∷ []) → Typed (ShrSlice (named 3) [] u64 .mir) (answers ∷ []) → Typed (ShrSlice (named 4) [] u64 .mir) (results ∷ []) → Typed (usize .mir) (paths ∷ []) → ent 𝓤 (lent.Begun L 𝓤 H A Tokens Rest Needs) (WpFn 𝓤 H C Λ code.function (lent.place L ∷ bids ∷ answers ∷ results ∷ paths ∷ []) Post)
@@ -67,23 +69,27 @@ module _ {M : Type 1} (𝓤 : URA M) (H : Heap 𝓤) (A : Atoms 𝓤) (W : Given
       pass1 ! (init ! 18 refl (tt, tt)) $ pass1 ! (init ! 16 refl (bids-typed .0)) $ pass1 ! (init ! 14 refl (answers-typed .0)) $ pass1 ! (init ! 12 refl (results-typed .0)) $ pass1 ! (init ! 10 refl (paths-typed .0)) $ pass0 ! $
       move ! (22 ∷ []) $ split ! $ split3 ! $ move ! (3 ∷ []) $ fsplit ! $ move ! (2 ∷ 3 ∷ 0 ∷ []) $
       use3 W (later (some (λ (ν : ℕ). some (λ (δ : GName). lent.Opened L 𝓤 ν δ)))) (lent.opened L 𝓤 H A W) $ await ! tt $ pick ! (λ ν. pick ! (λ δ. learn ! (λ sized. split ! $ move ! (1 ∷ []) $ split3 ! $
-      -- [ν's token; the buffer; what is aside; the cell; the rest; the tokens; _10; …; _9; …; _8; …; _7; …; _6; …; _5; …; _4; …; _3; …; _2; …; _1; …; room for _0; …; what is needed]
+      -- [ν's token; the buffer; what is aside; the cell; the rest; the tokens;
+      -- _10; …; _9; …; _8; …; _7; …; _6; …; _5; …; _4; …; _3; …; _2; …; _1; …; room for _0; …; what is needed]
       assigns ! (of-opd ! (load ! (from ! (hop ! (look ! 24 refl) (fld ! refl (stop !)))) (look-in ! 3 (sub ! 1 refl (whole !))))) (from ! (stop !)) (init ! 14 refl (tt, record { fits = sized .0 })) $
       assigns ! (of-opd ! (load ! (from ! (hop ! (look ! 24 refl) (fld ! refl (fld ! refl (stop !))))) (look-in ! 3 (sub ! 1 refl (sub ! 0 refl (whole !)))))) (from ! (stop !)) (init ! 10 refl (tt, record { fits = sized .1 .0 })) $
       assigns ! (addr ! (from ! (hop ! (look ! 24 refl) (fld ! refl (fld ! refl (hop ! (look-in ! 3 (sub ! 0 refl (sub ! 0 refl (whole !)))) (stop !))))))) (from ! (stop !)) (init ! 8 refl (tt, tt)) $
       assigns ! (agg ! (and-then ! (load ! (from ! (stop !)) (look ! 8 refl)) (and-then ! (load ! (from ! (stop !)) (look ! 10 refl)) (no-more !)))) (from ! (stop !)) (init ! 6 refl (tt, (tt, (record { fits = sized .1 .0 }, tt)))) $
       move ! (0 ∷ 1 ∷ 5 ∷ 4 ∷ 28 ∷ []) $ group ! 5 $ use1 W (raw (lent.Handing L 𝓤 H A Tokens Rest Needs ν δ)) (id⊢ 𝓤 _) $
-      -- [what is handed; what is aside; the cell; _10; …; _9; …; _8; …; _7; …; _6; …; _5; …; _4; …; _3; …; _2; …; _1; …; room for _0; …]
+      -- [what is handed; what is aside; the cell;
+      -- _10; …; _9; …; _8; …; _7; …; _6; …; _5; …; _4; …; _3; …; _2; …; _1; …; room for _0; …]
       calls-from ! fm (raw (lent.Handing L 𝓤 H A Tokens Rest Needs ν δ)) (lent.slice L ∷ vint w64 (L .writer .now .filled) ∷ bids ∷ answers ∷ results ∷ paths ∷ []) (lent.Answers L 𝓤 H A Tokens next ν δ) (writes ν δ (sized .0)) (and-then ! (load ! (from ! (stop !)) (look ! 3 refl)) (and-then ! (load ! (from ! (stop !)) (look ! 11 refl)) (and-then ! (load ! (from ! (stop !)) (look ! 19 refl)) (and-then ! (load ! (from ! (stop !)) (look ! 17 refl)) (and-then ! (load ! (from ! (stop !)) (look ! 15 refl)) (and-then ! (load ! (from ! (stop !)) (look ! 13 refl)) (no-more !))))))) (λ v.
       use1 W (later (some (λ (m : ℕ). some (λ (bs : List ℕ). lent.Answered L 𝓤 ν δ Tokens next v m bs)))) (id⊢ 𝓤 _) $
       await ! tt $ pick ! (λ m. pick ! (λ bs. learn ! (λ wrote. split3 ! $ move ! (1 ∷ []) $ peeks ! usize (Is usize) (shows 𝓤 H A usize) m (v ∷ []) (λ is.
-      -- [the count; the tokens; the bytes left; what is aside; the cell; _10; …; _9; …; _8; …; _7; …; _6; …; _5; …; _4; …; _3; …; _2; …; _1; …; room for _0; …]
+      -- [the count; the tokens; the bytes left; what is aside; the cell;
+      -- _10; …; _9; …; _8; …; _7; …; _6; …; _5; …; _4; …; _3; …; _2; …; _1; …; room for _0; …]
       land ! (from ! (stop !)) (init ! 11 refl (uint-lawful 𝓤 H A W w64 .typed m _ is .0)) $ rewrite ! 11 (λ (u : Val). ‵ (fat fullShare (tyInt w64) l₇ 0 u)) (ap only (is .0)) refl $
       assigns ! (of-opd ! (load ! (from ! (stop !)) (look ! 11 refl))) (from ! (hop ! (look ! 23 refl) (fld ! refl (stop !)))) (store-in ! 4 (sub ! 1 refl (whole !)) (tt, record { fits = is .1 })) $
       assigns ! (of-opd ! (unit-lit !)) (from ! (stop !)) (init ! 25 refl (tt, tt)) $
       drop ! $ split ! $ move ! (4 ∷ 0 ∷ 3 ∷ 2 ∷ []) $ group ! 4 $
       use1 W (later (‵ (lent.Lent L bs m) ⊛ ‵ (flft (L .outer) (L .share)) ⊛ ‵ (flft (L .inner) (L .share′)))) (lent.closed L 𝓤 H A W ν δ bs m (sized .1) (wrote .1 .1) (is .1)) $ await ! tt $ split3 ! $
-      -- [the writer lent; its tokens; the others; _10; …; _9; …; _8; …; _7; …; _6; …; _5; …; _4; …; _3; …; _2; …; _1; …; room for _0; …]
+      -- [the writer lent; its tokens; the others;
+      -- _10; …; _9; …; _8; …; _7; …; _6; …; _5; …; _4; …; _3; …; _2; …; _1; …; room for _0; …]
       returns ! (look ! 24 refl) $ forget ! 4 refl $ forget ! 6 refl $ forget ! 8 refl $ forget ! 10 refl $ forget ! 12 refl $ forget ! 14 refl $ forget ! 16 refl $ forget ! 18 refl $ forget ! 20 refl $ forget ! 22 refl $ forget ! 24 refl $
       move ! (24 ∷ 25 ∷ []) $ free1 ! $ move ! (22 ∷ 23 ∷ []) $ free1 ! $ move ! (20 ∷ 21 ∷ []) $ free1 ! $ move ! (18 ∷ 19 ∷ []) $ free1 ! $ move ! (16 ∷ 17 ∷ []) $ free1 ! $ move ! (14 ∷ 15 ∷ []) $ free1 ! $ move ! (12 ∷ 13 ∷ []) $ free1 ! $ move ! (10 ∷ 11 ∷ []) $ free1 ! $ move ! (8 ∷ 9 ∷ []) $ free1 ! $ move ! (6 ∷ 7 ∷ []) $ free1 ! $ move ! (4 ∷ 5 ∷ []) $ free1 ! $ free0 ! $
       by ! (ends m bs wrote))))))))))))))))))))
@@ -118,7 +124,7 @@ module _ {M : Type 1} (𝓤 : URA M) (H : Heap 𝓤) (A : Atoms 𝓤) (W : Given
   abbrev next : Writer
   next = written (w .now) (answeredText paths (bids .now) (answers .now) (results .now))
 
-  -- what `put_round` takes: the buffer for a lifetime ν, under a name δ, the count, the round's three lists, and the number of paths
+  -- what `put_round` takes: the buffer for a lifetime ν, under a name δ, the count, the round's lists, and the number of paths
   abbrev taken : ℕ → GName → Put 𝓤 H A mem run .Ghost
   taken ν δ = (((ν ∷ [], κs .1 .1), (fullShare, qs .1 .1), tt, (lent.handed L δ, (w .now .filled, args)), (spot (w .now .out), (vint w64 (w .now .filled) ∷ [], vals))), tt)
 

@@ -40,7 +40,7 @@ use Rattle.writer.proofs.start as start
 use Rattle.writer.proofs.start.Statement as stated
 use Rattle.writer.proofs.start.Code as code
 
--- the result holds the buffer, so nothing is had of the parameter in the end
+-- the result holds the buffer, so nothing remains of the parameter in the end
 abbrev stayed : Stays (start.ended .signature .params) (start.ended .kept)
 stayed = (stay-dropped (mutSliceOf (0 ∷ []) tt (plain (λ _. u8))) no, tt)
 
@@ -66,7 +66,7 @@ module _ {M : Type 1} (𝓤 : URA M) (H : Heap 𝓤) (A : Atoms 𝓤) (W : Given
       qed W ((‵ (flft κ q) ⊛ ‵ ftrue) ∷ ‵ (owns (MutSlice (named 0) κ u8 ∷ []) (out, tt) (spot ∷ [], tt)) ∷ []) ∵
       suffices ! _ (ends-at 𝓤 H A start.ended stayed (start.clauses 𝓤 H A mem run) W (((κ, tt), (q, tt), tt, (out, tt), (spot ∷ [], tt)), tt) begun (record { out = out; filled = 0 }) (tt, tt) (tt, tt)) $ says ! (refl, refl) $
       frame ! $ fsplit ! $ nothing ! $ move ! (0 ∷ 2 ∷ []) $ fjoin ! $ frame ! $
-      -- [what the buffer owns]: beside the count's it is what the writer owns
+      -- [what the buffer owns]: together with what the count owns it is what the writer owns
       nothing ! $ owned ! usize (Is usize) (uint-makes 𝓤 H A W w64) 0 _ (refl, lit< tt) $ fjoin ! $ move ! (1 ∷ 0 ∷ []) $ fjoin ! $ by ! (own-shut 𝓤 H A W (T.the-type α) (T′.the-laws α) (out, (0, tt)))
 
   module _ (C : Calls 𝓤 H) (Λ : Loops 𝓤 H) where

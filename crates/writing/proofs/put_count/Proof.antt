@@ -1,3 +1,5 @@
+-- A line in two pieces, the word with its space and the number with its newline; `append-assoc` splits the line so.
+-- `written-on` adds the first piece, which leaves the room that the second needs, and `written-all` the second.
 use borrow.Author.Needs.{needs}
 use mathlib.Core.Path.{sym}
 use mathlib.Core.List.{_∷_, [], _++_, append-assoc}

@@ -1,3 +1,6 @@
+-- The invariant: there is a number at `i`, and the text of the numbers before it is written, with the text of those
+-- from `i` on still to come. Each turn writes one number and a space (`more-numbers`); the one left at the end is the
+-- last (`last-number`).
 use borrow.Author.Needs.{needs}
 use native.Mathlib.Omega.{arith}
 use mathlib.Core.Path.{refl, _∙_}

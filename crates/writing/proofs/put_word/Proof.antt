@@ -1,3 +1,5 @@
+-- A text in two pieces, the word and the byte that ends it: `written-on` adds the word that `put_bytes` wrote, and
+-- `put-byte` makes the store of the last byte the second piece, so that the whole is written (`written-all`).
 use borrow.Author.Needs.{needs}
 use native.Mathlib.Omega.{arith}
 use mathlib.Core.Path.{refl}

@@ -1,3 +1,5 @@
+-- One call writes the whole line: `line-alone` says that the line of the six numbers is what `put_numbers` writes of
+-- them, with nothing left after it.
 use borrow.Author.Needs.{needs}
 use mathlib.Core.Path.{refl}
 use mathlib.Core.List.{[], _∷_}

@@ -1,3 +1,5 @@
+-- The invariant: the lines of the bidders before `i` are written, and those from `i` on are still to come. Each turn
+-- splits off one line (`bidders-next`); each number listed is a bidder's (`every-within`), so the book has the bidder.
 use borrow.Author.Needs.{needs}
 use mathlib.Core.Path.{sym, _∙_, ap}
 use mathlib.Core.List.{_++_}

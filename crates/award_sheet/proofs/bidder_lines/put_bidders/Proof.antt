@@ -1,3 +1,5 @@
+-- A text in two pieces, the count line and the lines of the bidders: the first is added by `written-on`, which leaves
+-- the room that the second needs, and the second by `written-all`.
 use borrow.Author.Needs.{needs}
 use mathlib.Core.Path.{refl}
 use mathlib.Core.List.{_++_}

@@ -1,3 +1,5 @@
+-- A line in three pieces: the word refused with its space, the refusal's number with its space (`field-piece`), and the
+-- word line with its number. `written-on` adds the first two and `written-all` the last, from place 0.
 use borrow.Author.Needs.{needs}
 use native.Mathlib.Omega.{arith}
 use mathlib.Core.Path.{refl}

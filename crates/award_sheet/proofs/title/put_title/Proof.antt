@@ -1,3 +1,5 @@
+-- A text in two pieces, the title line and the line of rounds: the first is added by `written-on`, which leaves the
+-- room that the second needs, and the second by `written-all`.
 use borrow.Author.Needs.{needs}
 use mathlib.Core.Path.{refl}
 use mathlib.Core.List.{_++_}

@@ -1,3 +1,5 @@
+-- A line in three pieces: the words up to the release, the release with its space (`field-piece`), and the rules with
+-- their edition. Each is added by `written-on` where the one before it ends, and the last by `written-all`.
 use borrow.Author.Needs.{needs}
 use mathlib.Core.Path.{refl}
 use mathlib.Core.List.{[], _∷_, _++_}

@@ -1,3 +1,4 @@
+-- The invariant: `i` is at most `count`, which is at most 1024, so each place is one that `put` takes.
 use borrow.Author.Needs.{needs}
 use Prim.Native.Nat.{_≤_, _-_}
 use Rattle.cases_refused.proofs.full.filled.Statement.{statement}

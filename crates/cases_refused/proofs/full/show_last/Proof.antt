@@ -1,3 +1,4 @@
+-- The invariant: `at` is at most 6144, the register's length, so each read is in range.
 use borrow.Author.Needs.{needs}
 use Prim.Native.Nat.{_≤_, _-_}
 use Rattle.cases_refused.proofs.full.show_last.Statement.{statement}

@@ -1,3 +1,5 @@
+-- The invariant only bounds `end` by 15, so counting it up does not overflow; first_words takes any length, so nothing
+-- else is needed.
 use borrow.Author.Needs.{needs}
 use Prim.Native.Nat.{_≤_, _-_}
 use Rattle.cases_refused.proofs.refusals.cut_short.Statement.{statement}

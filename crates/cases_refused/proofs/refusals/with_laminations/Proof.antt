@@ -1,3 +1,5 @@
+-- The invariant: `i` is between 2 and 23, so the place i * 2 is below 46 while the loop runs, and 1000 - i does not go
+-- below 0.
 use borrow.Author.Needs.{needs}
 use Prim.Native.Nat.{_≤_, _-_}
 use Rattle.cases_refused.proofs.refusals.with_laminations.Statement.{statement}

@@ -1,3 +1,5 @@
+-- A sound book bounds the bidder and the account, so that `forfeit` and `plus` may be called (bidder-within,
+-- sound-parts). What the callees ensure, put one into the other, is the rule's book.
 use mathlib.Core.Path.{_∙_, ap, ap₂}
 use native.Mathlib.Omega.{arith}
 use lib.IntN.{pos, _+ℤ_}

@@ -1,3 +1,5 @@
+-- By cases on whether the forfeit takes all cash and applied cash: the rule's subtraction stops at 0, so it is 0 where
+-- it does, and the plain difference where it does not.
 use mathlib.Core.Path.{_≡_, ap}
 use Prim.Native.Nat.{_-_}
 use native.Mathlib.Omega.{arith}

@@ -1,3 +1,5 @@
+-- The forfeit is at most cash, applied cash and letter together, so the draw is at most the letter and the subtraction
+-- does not go below 0. Each other field is 0 or what one callee ensures.
 use mathlib.Core.Path.{_≡_, ap}
 use native.Mathlib.Omega.{arith}
 use Rattle.market.specs.declared.units.Cents.{Cents}

@@ -1,3 +1,5 @@
+-- By cases on whether cash and applied cash cover the forfeit: the rule's subtraction stops at 0, so it is 0 where they
+-- do, and the plain difference where they do not.
 use mathlib.Core.Path.{_≡_, ap}
 use Prim.Native.Nat.{_-_}
 use native.Mathlib.Omega.{arith}

@@ -1,3 +1,5 @@
+-- By cases on which is smaller, all that the bidder has or a tenth of its value: each branch is that case of the rule's
+-- minimum. The bidder's bounds keep the sums within a word.
 use mathlib.Core.Path.{_≡_, ap}
 use Prim.Native.Nat.{_+_, _/_}
 use native.Mathlib.Omega.{arith}

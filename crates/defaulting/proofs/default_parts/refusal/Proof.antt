@@ -1,3 +1,6 @@
+-- The table is the register's rows and then default's own: a number of the first part is the whole table's
+-- (first-stands); where there is none default's own rows decide (second-decides), and the book is sound
+-- (register-cleared).
 use mathlib.Core.Path.{refl, sym, _∙_}
 use Rattle.market.proofs.Tables.{first-stands, second-decides}
 use Rattle.register.proofs.Cleared.{register-cleared}

@@ -1,3 +1,6 @@
+-- By cases: the calls up to open are refused (`run-refused`), or the auction is short (`run-short`) or long
+-- (`run-long`); these laws say what the output is, from what was read. Where open was answered its book is sound
+-- (`run-state`), as the rounds require.
 use borrow.Author.Needs.{needs}
 use mathlib.Core.Path.{_≡_, sym, _∙_, ap}
 use native.Mathlib.Omega.{arith}

@@ -1,3 +1,5 @@
+-- As for a short auction, once for each section: its words fit the list (`words-within`), and the front of the list is
+-- exactly those words (`words-taken`). So `long_output` is called with the words that the rule names.
 use borrow.Author.Needs.{needs}
 use mathlib.Core.Path.{_≡_, _∙_, ap, ap₂}
 use mathlib.Core.List.{List, [], _∷_}

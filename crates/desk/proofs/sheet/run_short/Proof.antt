@@ -1,3 +1,5 @@
+-- The section is a part of the sheet, so its words fit the list (`part-within`, `words-within`), and the front of the
+-- list is exactly those words (`words-taken`). So `short_output` is called with the words that the rule names.
 use borrow.Author.Needs.{needs}
 use mathlib.Core.Path.{_≡_, _∙_, ap}
 use mathlib.Core.List.{List, [], _∷_}

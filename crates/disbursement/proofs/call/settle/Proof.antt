@@ -1,3 +1,6 @@
+-- By cases: a list too short is 1 (short-number); otherwise the number is that of the other rows (long-number), any but
+-- 0 the rule's refusal (refuses-call), 0 its answer with the shares written (takes-call, writes-call). Where no row
+-- holds, rest-cleared gives what the callees require.
 use mathlib.Core.Path.{_∙_, ap}
 use native.Mathlib.Omega.{arith}
 use Rattle.market.specs.Answers.{answered}

@@ -1,3 +1,5 @@
+-- The invariant: the first `i` places are copies of the words and the rest are 0 (`filled`); each turn copies one word
+-- more (fill-next), and after the last the column is the first 32 words (all-copied).
 use borrow.Author.Needs.{needs}
 use mathlib.Core.Path.{_≡_, refl, _∙_, ap}
 use mathlib.Core.List.{List}

@@ -1,3 +1,4 @@
+-- Each of the four callees ensures the first 32 words of its list, so rewriting by them makes the rule's columns.
 use borrow.Author.Needs.{needs}
 use Rattle.disbursement.proofs.columns.columns_of.Statement.{statement}
 use Rattle.disbursement.proofs.columns.columns_of.Tie as tie

@@ -1,3 +1,5 @@
+-- By cases on the flow: a sound book's account and a total within the limit are what `minus` and `plus` require, and
+-- what they ensure is the rule's balance for that flow.
 use native.Mathlib.Omega.{arith}
 use Rattle.market.proofs.SoundLaws.{sound-parts}
 use borrow.Author.Needs.{needs}

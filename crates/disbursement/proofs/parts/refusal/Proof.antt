@@ -1,3 +1,6 @@
+-- The table is the rows of the total and then those of the columns: a number of the first part is the whole table's
+-- (first-stands); where there is none the columns decide (second-decides), and the total is within its limit
+-- (total-cleared).
 use mathlib.Core.Path.{refl, sym, _∙_}
 use Rattle.market.proofs.Tables.{first-stands, second-decides}
 use Rattle.disbursement.proofs.Cleared.{total-cleared}

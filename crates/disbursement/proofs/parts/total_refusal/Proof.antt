@@ -1,3 +1,5 @@
+-- One case for each row of the table: each `if` decides one row's test, which is rewritten to true or false. The tests
+-- passed before it give the sound book and the bounded total that account_after requires.
 use mathlib.Core.Path.{sym, _∙_, ap}
 use borrow.Author.Tests.{not-true, not-false, eq-eqb, ne-eqb, le-leb, lt-leb}
 use Rattle.market.specs.declared.units.Balance.{Balance}

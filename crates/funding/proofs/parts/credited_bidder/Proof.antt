@@ -1,3 +1,5 @@
+-- By cases on cash or letter: the room that is required keeps the sum within the money limit, so it fits a word, and
+-- the bidder that the callee ensures is the rule's.
 use Prim.Native.Nat.{_+_}
 use native.Mathlib.Omega.{arith}
 use borrow.Author.Tests.{leb-true}

@@ -1,3 +1,5 @@
+-- By cases on cash or letter: the amount is at most what may be withdrawn, so the subtraction does not go below 0, and
+-- the bidder that the callee ensures is the rule's.
 use native.Mathlib.Omega.{arith}
 use borrow.Author.Needs.{needs}
 use Rattle.funding.proofs.parts.debited_bidder.Statement.{statement}

@@ -1,3 +1,5 @@
+-- The table is the common rows and one row more. A number of the common rows is the whole table's (first-stands); where
+-- they give none the last row decides (second-decides), and has_room decided its test.
 use Rattle.market.specs.declared.book.Bidder.{Bidder}
 use mathlib.Core.Path.{refl, sym, _∙_, ap}
 use mathlib.Core.List.{[], _∷_}

@@ -1,3 +1,5 @@
+-- By cases on cash or letter: the code compares the amount with what the limit leaves, the rule compares the sum with
+-- the limit. The two tests agree since what the bidder has already is within the limit (leb-left).
 use Rattle.market.proofs.Tests.{leb-left}
 use Rattle.market.specs.Limits.{moneyLimit}
 use Rattle.market.specs.Books.{heldOf}

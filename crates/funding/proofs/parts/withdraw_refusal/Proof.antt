@@ -1,3 +1,6 @@
+-- The table is the common rows and one row more. A number of the common rows is the whole table's (first-stands); where
+-- they give none the last row decides (second-decides), which compares the amount with what may be withdrawn, as the
+-- code does.
 use Rattle.market.specs.declared.book.Bidder.{Bidder}
 use borrow.Author.Tests.{le-leb, lt-leb}
 use mathlib.Core.Path.{refl, sym, _∙_, ap}

@@ -1,3 +1,5 @@
+-- No case: two fields are read, the second from where the first ends, and hour-same says that these are the rule's. The
+-- day fits 32 bits because it was read with that limit (number-within).
 use borrow.Author.Needs.{needs}
 use native.Mathlib.Omega.{arith}
 use mathlib.Core.Path.{sym, subst}

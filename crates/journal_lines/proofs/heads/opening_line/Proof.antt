@@ -1,3 +1,5 @@
+-- No case: three fields are read, each from where the one before it ends, and opening-same says that these are the
+-- rule's. Both days fit 32 bits because they were read with that limit (number-within).
 use borrow.Author.Needs.{needs}
 use native.Mathlib.Omega.{arith}
 use mathlib.Core.Path.{sym, _∙_, ap, subst}

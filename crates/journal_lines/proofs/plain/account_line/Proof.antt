@@ -1,3 +1,5 @@
+-- By cases on whether the three fields are present: then the line is the call that account_call gives, otherwise it is
+-- faulty (called, faulty). account-same says that the fields read one after another are the rule's.
 use borrow.Author.Needs.{needs}
 use native.Mathlib.Omega.{arith}
 use mathlib.Core.Path.{sym, _∙_, ap, subst}

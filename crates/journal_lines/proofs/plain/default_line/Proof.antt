@@ -1,3 +1,5 @@
+-- By cases on whether the bidder's number is present: then the line is a call (standing, called), otherwise it is
+-- faulty (missing, faulty). The number fits 32 bits because it was read with that limit (last-within).
 use borrow.Author.Needs.{needs}
 use native.Mathlib.Omega.{arith}
 use mathlib.Core.Path.{sym, _∙_, ap, subst}

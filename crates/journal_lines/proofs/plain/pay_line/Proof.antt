@@ -1,3 +1,5 @@
+-- By cases on whether both fields are present: then the line is a call, otherwise it is faulty (called, faulty).
+-- pay-same says that the fields read one after another are the rule's.
 use borrow.Author.Needs.{needs}
 use native.Mathlib.Omega.{arith}
 use mathlib.Core.Path.{sym, _∙_, subst}

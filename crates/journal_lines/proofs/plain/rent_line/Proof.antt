@@ -1,3 +1,5 @@
+-- By cases on whether the amount is present: then the line is a call (standing, called), otherwise it is faulty
+-- (missing, faulty). The amount is the rule's by last_number's contract.
 use borrow.Author.Needs.{needs}
 use mathlib.Core.Path.{_∙_, ap}
 use Rattle.journal_fields.specs.JournalFields.{stands}

@@ -1,3 +1,5 @@
+-- Five cases: the first of the four words that the line starts with, or none of them (first-stands to none-stands). A
+-- word that the line starts with is no longer than the line (starts-fit).
 use borrow.Author.Needs.{needs}
 use mathlib.Core.Path.{sym, _∙_}
 use Rattle.fields.proofs.ReadLaws.{starts-fit}

@@ -1,3 +1,5 @@
+-- Five cases: the first of the four words that the line starts with (first-stands to fourth-stands), or none of them,
+-- where later_verb's contract gives the rest (none-stands). Such a word is no longer than the line (starts-fit).
 use borrow.Author.Needs.{needs}
 use mathlib.Core.Path.{sym, _∙_}
 use Rattle.fields.proofs.ReadLaws.{starts-fit}

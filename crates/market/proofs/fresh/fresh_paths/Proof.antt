@@ -1,3 +1,5 @@
+-- The invariant: the first `i` slots hold the fresh paths of their routes and the rest are empty (`filled`). Each turn
+-- stores one path more (fill-next); at `i = count` this is the rule's list of slots by definition.
 use lib.ListN.{set}
 use mathlib.Core.List.{List}
 use Rattle.market.specs.declared.book.Path.{Path}

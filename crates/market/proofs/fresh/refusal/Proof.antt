@@ -1,3 +1,5 @@
+-- One case for each row of the table: each callee decides one row's test, so its result rewrites that row to true or
+-- false. A count that passed the first test is within the limit, which sound_routes requires (count-within).
 use mathlib.Core.Path.{sym, _∙_}
 use borrow.Author.Tests.{not-true, not-false}
 use Rattle.market.proofs.SoundLaws.{count-within}

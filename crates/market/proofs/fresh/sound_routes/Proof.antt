@@ -1,3 +1,6 @@
+-- The invariant (`Passed`): testing the first `count` routes comes to testing those from `i` on, since all before
+-- passed. A zone over the limit fails the whole test (fail-first), a good one moves `i` on (pass-first), and at the end
+-- nothing is left to test (passed-first).
 use borrow.Author.Needs.{needs}
 use mathlib.Core.Path.{refl, sym}
 use Prim.Native.Nat.{_≤_, _-_}

@@ -1,3 +1,6 @@
+-- The invariant (`Passed`): testing the first `count` quantities comes to testing those from `i` on, since all before
+-- passed. One over the limit fails the whole test (fail-first), any other moves `i` on (pass-first); at the end none is
+-- left (passed-first).
 use mathlib.Core.Path.{refl, sym}
 use Prim.Native.Nat.{_≤_, _-_}
 use lib.ListN.{take}

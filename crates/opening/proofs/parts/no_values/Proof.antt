@@ -1,3 +1,6 @@
+-- The invariant (`Passed`): testing all bidders comes to testing those from `i` on, since all before passed. A bidder
+-- with a value fails the whole test (fail), one without moves `i` on (pass), and after the last nothing is left to test
+-- (passed).
 use mathlib.Core.Path.{refl, sym, _∙_}
 use Prim.Native.Nat.{_≤_, _-_}
 use borrow.Author.Needs.{needs}

@@ -1,3 +1,6 @@
+-- The invariant: the amounts are what the first `i` entries earn by the rates, credited to their bidders, and the total
+-- is their sum, at most what `i` entries can earn, so all sums fit (sum-fits). At the end the amounts are the rule's,
+-- since each rate is the rule's (credits-same).
 use borrow.Author.Needs.{needs}
 use mathlib.Core.Path.{_≡_, refl, sym, _∙_, ap, ap₂}
 use mathlib.Core.List.{List}

@@ -1,3 +1,5 @@
+-- By cases on whether the entry pays that day: pays_on decides the contract's `cond`. Quantity and rate are within
+-- their limits, so the product fits a word and is at most the product of the limits (product-within).
 use mathlib.Core.Path.{sym, _∙_}
 use native.Mathlib.Omega.{arith}
 use borrow.Author.Tests.{not-true, not-false}

@@ -1,3 +1,6 @@
+-- The invariant: the first `i` places hold the rates of their paths and the rest are 0 (`filled`); each turn fills one
+-- more (fill-next). A path's zone is within the limit, so the hour that it sees is sound, which rate_of requires
+-- (hour-sound).
 use borrow.Author.Needs.{needs}
 use native.Mathlib.Omega.{arith}
 use mathlib.Core.Path.{_≡_, refl, _∙_, ap, ap₂}

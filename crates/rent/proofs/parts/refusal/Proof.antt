@@ -1,3 +1,5 @@
+-- One case for each row of the table: each `if` decides one row's test, which is rewritten to true or false. The sound
+-- account and the bounded amount that `plus` requires come from the tests that were passed before it.
 use mathlib.Core.Path.{sym, _∙_, ap}
 use borrow.Author.Tests.{not-true, not-false, eq-eqb, ne-eqb, le-leb, lt-leb}
 use native.Mathlib.Omega.{arith}

@@ -1,3 +1,5 @@
+-- The invariant: the first `i` slots hold the offers of the first `i` paths and the others hold 0; each turn fills one
+-- slot (fill-next). At the end the filled slots are the offers of the first `number` paths (offers-filled).
 use borrow.Author.Needs.{needs}
 use native.Mathlib.Omega.{arith}
 use mathlib.Core.Path.{_≡_, refl, _∙_, ap}

@@ -1,3 +1,5 @@
+-- By cases on what is told: in each arm put_reply writes the rule's text of that case (text-nothing, text-offers,
+-- text-amounts). The list of offers and its length are the book's, by offers_of's contract.
 use borrow.Author.Needs.{needs}
 use native.Mathlib.Omega.{arith}
 use mathlib.Core.Path.{sym, _∙_, ap}

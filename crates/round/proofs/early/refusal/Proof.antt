@@ -1,3 +1,5 @@
+-- The table is in two parts. A refusal of the first part is the whole table's (`first-stands`); without one the second
+-- part decides (`second-decides`), and the book is known to be sound, which bounds its paths.
 use mathlib.Core.Path.{refl, sym, _∙_}
 use mathlib.Core.List.{_++_}
 use Rattle.market.proofs.SoundLaws.{sound-parts, count-within}

@@ -1,3 +1,4 @@
+-- The period returned is the stage's; with that put in, both claims and the room required are those of `add_entries`.
 use native.Mathlib.Omega.{arith}
 use mathlib.Core.Path.{_∙_, ap}
 use mathlib.Core.List.{_++_}

@@ -1,3 +1,5 @@
+-- The three parts that change are each what its callee ensures, and a book made of equal parts is equal (`made-same`);
+-- the sound book gives the bounds that the callees require.
 use Rattle.round.proofs.RoundLaws.{made-same, sold-sound}
 use native.Mathlib.Omega.{arith}
 use mathlib.Core.Path.{_∙_, ap}

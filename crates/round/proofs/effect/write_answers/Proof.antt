@@ -1,3 +1,4 @@
+-- Two calls that write to different lists: each list is what its callee ensures, and the requirements are handed on.
 use native.Mathlib.Omega.{arith}
 use borrow.Author.Needs.{needs}
 use Rattle.round.proofs.effect.write_answers.Statement.{statement}

@@ -1,3 +1,5 @@
+-- The marks are the rule's padded with 0, and padding changes no award (`awards-same`), so the count is that of the
+-- rule's winners; as many bids win as there are new entries (`winners-are`).
 use Rattle.market.specs.Limits.{pathLimit, bidderLimit, entryLimit}
 use Rattle.bids.proofs.Walk.{bids-few}
 use Rattle.admission.proofs.MarkLaws.{marks-length}

@@ -1,3 +1,5 @@
+-- Each field is what its callee ensures, once the limits, the kind and the round number it was called with are the
+-- rule's; the sound book gives the bounds that the callees require.
 use mathlib.Core.Path.{_∙_, ap, ap₂}
 use mathlib.Core.List.{List, map, _++_}
 use Prim.Native.Nat.{ℕ, _-_}

@@ -1,3 +1,5 @@
+-- By cases on what the bid won: its part is its line (`award-won`), which `put_award_line` writes, or nothing
+-- (`award-lost`), and then the buffer is already right.
 use borrow.Author.Needs.{needs}
 use mathlib.Core.Path.{refl}
 use mathlib.Core.List.{[]}

@@ -1,3 +1,5 @@
+-- One call writes the whole line (`line-alone`). The bidder and the path come from the header that was read, which is
+-- the bid's (`header_at`); MW and charge are read from the bid's own answers.
 use borrow.Author.Needs.{needs}
 use mathlib.Core.Path.{refl, sym, _∙_, ap}
 use mathlib.Core.List.{List, [], _∷_, _++_}

@@ -1,3 +1,6 @@
+-- The invariant (`LinesTo`): a walk over the words has passed `k` bids, whose awards are written, and those of the
+-- others are still to come. A turn writes one bid's award, if any, and goes on to the bid's end, inside the list
+-- (`bid-whole`).
 use native.Mathlib.Omega.{arith}
 use mathlib.Core.Path.{refl}
 use Prim.Native.Nat.{_-_}

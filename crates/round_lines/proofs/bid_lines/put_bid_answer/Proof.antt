@@ -1,3 +1,5 @@
+-- The end of a line in two pieces, the mark with its space and the value with its newline (`field-piece`): the mark is
+-- added by `written-on`, and the value by `written-all`.
 use borrow.Author.Needs.{needs}
 use mathlib.Core.List.{[], _∷_, _++_}
 use Rattle.fields.specs.Fields.{space, newline}

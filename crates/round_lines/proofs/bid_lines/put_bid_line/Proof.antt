@@ -1,3 +1,5 @@
+-- A line in two pieces, its three numbers and its mark with its value (`three-pieces`): the first is added by
+-- `written-on`, which leaves the room that the second needs, and the second by `written-all`.
 use borrow.Author.Needs.{needs}
 use native.Mathlib.Omega.{arith}
 use mathlib.Core.List.{[], _∷_}

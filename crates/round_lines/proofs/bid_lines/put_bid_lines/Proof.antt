@@ -1,3 +1,6 @@
+-- The invariant (`LinesTo`): a walk over the words has passed `k` bids, whose lines are written, and the lines of the
+-- others are still to come. Each turn writes one line and goes on to the bid's end, still inside the list
+-- (`bid-whole`).
 use native.Mathlib.Omega.{arith}
 use mathlib.Core.Path.{refl}
 use Prim.Native.Nat.{_-_}

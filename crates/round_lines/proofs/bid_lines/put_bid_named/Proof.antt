@@ -1,3 +1,5 @@
+-- One call writes the whole text. The bidder and the path come from the header that was read, which is the bid's
+-- (`header_at`), so the numbers written are those of the rule.
 use borrow.Author.Needs.{needs}
 use mathlib.Core.Path.{refl, sym, _∙_, ap}
 use mathlib.Core.List.{List, [], _∷_, append-nil}

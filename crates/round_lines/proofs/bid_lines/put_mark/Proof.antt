@@ -1,3 +1,5 @@
+-- By cases on the mark: the word is "admitted" (`mark-admitted`) or "over" (`mark-over`). In both cases one call writes
+-- the whole text, and no rest remains to be written.
 use borrow.Author.Needs.{needs}
 use mathlib.Core.Path.{refl}
 use mathlib.Core.List.{[], _∷_, _++_}

@@ -1,3 +1,5 @@
+-- A line in two pieces, its three numbers and its price (`three-pieces`): the numbers are added by `written-on`, which
+-- leaves the room that the price needs, and the price by `written-all`.
 use borrow.Author.Needs.{needs}
 use mathlib.Core.List.{[], _∷_, _++_}
 use Rattle.fields.specs.Fields.{space, newline}

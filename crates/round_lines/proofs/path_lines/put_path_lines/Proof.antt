@@ -1,3 +1,6 @@
+-- The invariant: the lines of the paths below `path` are written, and those from `path` on are still to come.
+-- `paths-all` turns the rule, which counts from the last path, into lines from the first; `paths-next` splits off one
+-- line a turn.
 use borrow.Author.Needs.{needs}
 use mathlib.Core.Path.{subst}
 use mathlib.Core.List.{List}

@@ -1,3 +1,5 @@
+-- By cases on the price: for 0 the field is the dash (`price-none`), otherwise the number itself (`price-some`). In
+-- both cases one call writes the whole text, and no rest remains to be written.
 use borrow.Author.Needs.{needs}
 use mathlib.Core.Path.{refl}
 use mathlib.Core.List.{[], _∷_, _++_}

@@ -1,3 +1,5 @@
+-- The invariant: a walk over the words has passed `k` bids and is at `place`. Each turn goes on by one bid (`bids-on`),
+-- and at the end of the words every bid was counted (`bids-counted`).
 use native.Mathlib.Omega.{arith}
 use Prim.Native.Nat.{_-_}
 use lib.ListN.{length}

@@ -1,3 +1,5 @@
+-- The invariant (`WinnersTo`): `count` of the `k` bids passed won, and all winners are these and the winners among the
+-- bids left. There are at most `bidLimit` bids (`bid-below`), so the count stays small.
 use native.Mathlib.Omega.{arith}
 use Prim.Native.Nat.{_-_}
 use lib.ListN.{length}

@@ -1,3 +1,5 @@
+-- By cases on whether the bid won anything: `lt-ltb` and `le-ltb` turn the test of the code into the test of the rule,
+-- true and false.
 use borrow.Author.Needs.{needs}
 use borrow.Author.Tests.{lt-ltb, le-ltb}
 use Rattle.round_lines.proofs.walks.won_one.Statement.{statement}

@@ -1,3 +1,5 @@
+-- The invariant (`QuantitiesTo`): the first `i` groups of four words are the quantities of the first `i` slots, and the
+-- rest are 0. The four stores of a turn fill one group more (`one-put`).
 use lib.ListN.{getD}
 use borrow.Author.Needs.{needs}
 use Prim.Native.Nat.{_-_}

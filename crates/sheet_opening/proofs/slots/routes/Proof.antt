@@ -1,3 +1,5 @@
+-- The invariant (`FilledTo`): the first `i` routes are those of the first `i` slots, and the others are empty. Each
+-- turn stores one route (`one-filled`), and when every slot is done the list is the map (`every-filled`).
 use borrow.Author.Needs.{needs}
 use Prim.Native.Nat.{_-_}
 use mathlib.Core.Path.{ap}

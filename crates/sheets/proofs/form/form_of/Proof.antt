@@ -1,3 +1,6 @@
+-- By cases: a text that is too long and one without a title are faulty, and of a faulty text no places are claimed
+-- (`if-faulty`). Otherwise the text has room for a kind (`title-long`), and the form is that of the sections after the
+-- title.
 use mathlib.Core.Path.{_≡_, sym, _∙_, ap₂, subst}
 use Prim.Native.Nat.{ℕ}
 use lib.ListN.{drop}

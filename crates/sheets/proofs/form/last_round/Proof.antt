@@ -1,3 +1,5 @@
+-- By cases on the section: where a line of it is faulty, the form is that line (`form-faulty`); otherwise the form is
+-- that of what follows the section (`form-on`), which is the end, tested by `end_form`.
 use mathlib.Core.List.{[]}
 use borrow.Author.Needs.{needs}
 use borrow.Author.Tests.{not-true, not-false}

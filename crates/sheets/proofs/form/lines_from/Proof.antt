@@ -1,3 +1,5 @@
+-- The invariant (`LinesTo`): the lines that the rule reads are the `lines` read so far and then what it reads of the
+-- `left` lines from here on. A line takes at least one byte, so `lines` and `state` stay small and no sum wraps.
 use borrow.Author.Needs.{needs}
 use native.Mathlib.Omega.{arith}
 use Rattle.sheets.proofs.FormLaws.{LinesTo, none-read, all-read, line-faulty, line-read}

@@ -1,3 +1,6 @@
+-- The first bids section by `form-faulty` or `form-on`, as in `last_round`; then by cases on the kind: after it a short
+-- auction has the end and a long one has another section. `rounds-are` writes the rule's list as that section and the
+-- later ones.
 use mathlib.Core.Path.{_∙_, ap}
 use mathlib.Core.List.{List, [], _∷_}
 use Prim.Native.Nat.{ℕ, _+_}

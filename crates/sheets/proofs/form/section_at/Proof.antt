@@ -1,3 +1,5 @@
+-- By cases on the count line: where it is missing the section has no lines (`none-..`); where it is read, its lines are
+-- those of `lines_from` and the count line itself (`some-..`), one law for each field of the result.
 use native.Mathlib.Omega.{arith}
 use borrow.Author.Needs.{needs}
 use Rattle.sheets.proofs.FormLaws.{none-stands, none-lines, none-used, some-stands, some-lines, some-used}

@@ -1,3 +1,5 @@
+-- The rule goes through the sections one by one, and so does the code: each is passed by `form-on` or ends the form by
+-- `form-faulty`. Only a right form claims places, and those are sums of the bytes that the sections took.
 use mathlib.Core.Path.{refl, _∙_, ap}
 use mathlib.Core.List.{List, _∷_}
 use Prim.Native.Nat.{ℕ, _+_}

@@ -1,3 +1,6 @@
+-- By cases on the refusal's number: any but 0 is the refusal with the book that has no path (refuses), 0 the answer
+-- with the fresh book (takes). Where no row holds, the first row gives the bound on `count` that fresh_paths requires
+-- (none-holds).
 use lib.ListN.{replicate, take}
 use Rattle.market.specs.declared.book.Path.{Path}
 use Rattle.market.specs.Limits.{pathLimit}
