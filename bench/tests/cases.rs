@@ -45,12 +45,12 @@ fn compare(directory: &str, word: &str, output: fn(&[u8]) -> Vec<u8>) {
 
 #[test]
 fn sheet_cases() {
-    compare("cases_sheets", "sheet", sheets::output);
+    compare("case_sheets", "sheet", sheets::output);
 }
 
 #[test]
 fn journal_cases() {
-    compare("cases_journal", "journal", journals::output);
+    compare("case_journals", "journal", journals::output);
 }
 
 #[test]

@@ -1,2 +1,3 @@
--- Laws about writing an award sheet.
-pub mod BidderLaws
+-- The pieces of an award sheet, and how long it can be.
+pub mod AwardLength
+pub mod Pieces

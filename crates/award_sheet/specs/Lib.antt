@@ -1,3 +1,2 @@
--- The award sheet.
-pub mod AwardSheet
-pub mod Phrases
+-- What is written of a round.
+pub mod Rounds

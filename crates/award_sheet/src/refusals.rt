@@ -1,28 +1,23 @@
-// The line that is printed in the place of an award sheet.
-use market::answer::Refusal;
-ghost use mathlib.Core.Path.{_≡_};
+// The line that takes the place of an award sheet, in a buffer that has room for an award sheet.
 ghost use Prim.Native.Nat.{_≤_};
 ghost use lib.ListN.{length};
-ghost use Rattle.text.specs.Put.{putAt};
+ghost use Rattle.market.specs.Limits.{awardSheetBytes};
+ghost use Rattle.text_numbers.specs.Put.{Put};
 ghost use Rattle.market.specs.Answers.{formRefusal};
-ghost use Rattle.award_sheet.specs.AwardSheet.{refusedLine, refusedText};
+ghost use Rattle.award_sheet_parts.specs.AwardSheet.{refusedLine, refusedText};
 
-// Writes a refusal's number, at the front of the buffer.
-pub fn put_refused(out: &mut [u8], number: u32) -> usize
-    requires { ⌜ length (refusedText number) ≤ length (now out) ⌝ }
-    ensures place { λ r. ⌜ r ≡ length (refusedText number) ⌝ }
-    ensures bytes { λ _. ⌜ now (out .exit) ≡ putAt (now (out .entry)) 0 (refusedText number) ⌝ }
+// Writes a refusal's number.
+pub fn refused(out: &mut [u8], number: u32) -> usize
+    requires { ⌜ awardSheetBytes ≤ length (now out) ⌝ }
+    ensures { λ r. ⌜ Put (now (out .entry)) 0 (refusedText number) (now (out .exit)) r ⌝ }
 {
-    writing::put_count(out, 0, b"refused", number as u64)
+    award_sheet_parts::refusals::put_refused(out, number)
 }
 
-// Writes the refusal of a faulty sheet, with the number of its first faulty line, at the front of the buffer.
-pub fn put_faulty(out: &mut [u8], line: u32) -> usize
-    requires { ⌜ length (refusedLine formRefusal line) ≤ length (now out) ⌝ }
-    ensures place { λ r. ⌜ r ≡ length (refusedLine formRefusal line) ⌝ }
-    ensures bytes { λ _. ⌜ now (out .exit) ≡ putAt (now (out .entry)) 0 (refusedLine formRefusal line) ⌝ }
+// Writes the number of the first faulty line of a sheet.
+pub fn faulty(out: &mut [u8], line: u32) -> usize
+    requires { ⌜ awardSheetBytes ≤ length (now out) ⌝ }
+    ensures { λ r. ⌜ Put (now (out .entry)) 0 (refusedLine formRefusal line) (now (out .exit)) r ⌝ }
 {
-    let named = text::put_bytes(out, 0, b"refused ");
-    let numbered = writing::put_field(out, named, Refusal::FORM as u64, fields::SPACE);
-    writing::put_count(out, numbered, b"line", line as u64)
+    award_sheet_parts::refusals::put_faulty(out, line)
 }

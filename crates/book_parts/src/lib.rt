@@ -1,14 +1,17 @@
-// A book's bidder, and a book with one part replaced.
+// The parts of a book: its bidder read, a part replaced, and what calls ask of a part: that the stage is idle, that a period is one
+// that open takes, that a bidder's value is 0.
 use market::book::Bidder;
 use market::book::Book;
 use market::book::Path;
+use market::book::Period;
 use market::book::Stage;
 use market::engine::Engine;
 use market::units::Balance;
 ghost use mathlib.Core.Path.{_≡_};
 ghost use Prim.Native.Nat.{_<_};
-ghost use Rattle.market.specs.Books.{bidderOf, withBidder, withAccount, withEntries, withAuction};
+ghost use Rattle.market.specs.Books.{bidderOf, withBidder, withAccount, withEntries, withAuction, noValue};
 ghost use Rattle.market.specs.Limits.{bidderLimit};
+ghost use Rattle.market.specs.Sound.{soundPeriod, isIdle};
 
 // The bidder with a given number.
 pub fn bidder(book: Book, number: u32) -> Bidder
@@ -62,4 +65,29 @@ pub fn with_auction(book: Book, paths: [Path; Engine::PATHS], stage: Stage) -> B
         entries: book.entries,
         stage,
     }
+}
+
+// Whether the stage is idle.
+pub fn is_idle(stage: Stage) -> bool
+    ensures { λ r. ⌜ r ≡ isIdle stage ⌝ }
+{
+    if let Stage::Idle = stage { true } else { false }
+}
+
+// Whether open takes a period.
+pub fn sound_period(period: Period) -> bool
+    ensures { λ r. ⌜ r ≡ soundPeriod period ⌝ }
+{
+    let first = period.first;
+    let last = period.last;
+    (first.0 <= last.0) & (last.0 <= Engine::DAY_LIMIT)
+}
+
+// Whether a bidder's value is 0.
+pub fn no_value(bidder: Bidder) -> bool
+    ensures { λ r. ⌜ r ≡ noValue bidder ⌝ }
+{
+    let applied = bidder.applied;
+    let owed = bidder.owed;
+    (applied.0 == 0) & (owed.0 == 0)
 }

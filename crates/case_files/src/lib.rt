@@ -1,6 +1,6 @@
 // Cases in one text, one after another. Before a case there is a line with a word, how many bytes the case has, and a name for
 // it; after the case there is one byte 10.
-use fields::Field;
+use text_fields::Field;
 ghost use Prim.Native.Nat.{_≤_, _<_};
 ghost use lib.ListN.{length};
 
@@ -22,7 +22,7 @@ pub fn line_end(bytes: &[u8], from: usize) -> usize
 {
     let mut at = from;
     while at < bytes.len() {
-        if bytes[at] == fields::NEWLINE {
+        if bytes[at] == text_fields::NEWLINE {
             return at;
         }
         at += 1;
@@ -39,10 +39,10 @@ fn header(bytes: &[u8], word: &[u8]) -> Field
     if bytes.len() < word.len() {
         return none;
     }
-    if !fields::starts_with(bytes, 0, word) {
+    if !text_fields::starts_with(bytes, 0, word) {
         return none;
     }
-    let size = fields::field_at(bytes, word.len(), fields::WORD_TOP, fields::SPACE);
+    let size = text_fields::field_at(bytes, word.len(), text_fields::WORD_TOP, text_fields::SPACE);
     if size.used == 0 {
         return none;
     }

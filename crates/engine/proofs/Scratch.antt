@@ -6,7 +6,7 @@ use Prim.Native.Nat.{ℕ, zero, suc}
 use native.Mathlib.Omega.{arith}
 use lib.Dec.{eqb}
 use borrow.Author.Tests.{ne-eqb}
-use Rattle.round.specs.Round.{scratchAfter}
+use Rattle.call_round.specs.Round.{scratchAfter}
 use Rattle.engine.specs.Step.{ScratchHolds}
 
 pub scratch-holds : (number : ℕ) (before after : List ℕ) → scratchAfter number before after → ScratchHolds (eqb number 0) before after

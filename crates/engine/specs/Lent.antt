@@ -3,7 +3,7 @@
 use mathlib.Core.List.{List}
 use Prim.Native.Nat.{ℕ}
 use lib.IntN.{ℤ}
-use Rattle.disbursement.specs.Disbursement as pools
+use Rattle.call_disburse.specs.Disbursement as pools
 
 pub record Lent : Type 0 where
   -- open: "per path a base quantity, a financial upper limit (FUL) and two expected capabilities A and B"
@@ -41,5 +41,5 @@ lent quantities bids prices provincial export meters interties amounts answers r
     }
 
 -- what disburse and recover are lent
-abbrev pub columnsOf : Lent → pools.Lent
-columnsOf l = pools.lent (l .provincial) (l .export) (l .meters) (l .interties) (l .amounts)
+abbrev pub poolListsOf : Lent → pools.PoolLists
+poolListsOf l = pools.poolLists (l .provincial) (l .export) (l .meters) (l .interties) (l .amounts)

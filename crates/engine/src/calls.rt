@@ -1,5 +1,5 @@
 // The eleven calls.
-use funding::Funds;
+use call_funding::Funds;
 use market::book::Kind;
 use market::book::Period;
 use market::units::Cents;

@@ -27,28 +27,60 @@ pub fn call(
     results: &mut [u64],
     scratch: &mut [u32],
 ) -> Outcome
-    ensures outcome { λ r. ⌜ r ≡ rules.step book (now (words .entry)) what (lent (now (quantities .entry)) (now (bids .entry)) (now (prices .entry)) (now (provincial .entry)) (now (export .entry)) (now (meters .entry)) (now (interties .entry)) (now (amounts .entry)) (now (answers .entry)) (now (results .entry)) (now (scratch .entry))) .outcome ⌝ }
-    ensures register { λ r. ⌜ now (words .exit) ≡ rules.step book (now (words .entry)) what (lent (now (quantities .entry)) (now (bids .entry)) (now (prices .entry)) (now (provincial .entry)) (now (export .entry)) (now (meters .entry)) (now (interties .entry)) (now (amounts .entry)) (now (answers .entry)) (now (results .entry)) (now (scratch .entry))) .words ⌝ }
-    ensures amounts { λ r. ⌜ now (amounts .exit) ≡ rules.step book (now (words .entry)) what (lent (now (quantities .entry)) (now (bids .entry)) (now (prices .entry)) (now (provincial .entry)) (now (export .entry)) (now (meters .entry)) (now (interties .entry)) (now (amounts .entry)) (now (answers .entry)) (now (results .entry)) (now (scratch .entry))) .amounts ⌝ }
-    ensures bids { λ r. ⌜ now (answers .exit) ≡ rules.step book (now (words .entry)) what (lent (now (quantities .entry)) (now (bids .entry)) (now (prices .entry)) (now (provincial .entry)) (now (export .entry)) (now (meters .entry)) (now (interties .entry)) (now (amounts .entry)) (now (answers .entry)) (now (results .entry)) (now (scratch .entry))) .answers ⌝ }
-    ensures paths { λ r. ⌜ now (results .exit) ≡ rules.step book (now (words .entry)) what (lent (now (quantities .entry)) (now (bids .entry)) (now (prices .entry)) (now (provincial .entry)) (now (export .entry)) (now (meters .entry)) (now (interties .entry)) (now (amounts .entry)) (now (answers .entry)) (now (results .entry)) (now (scratch .entry))) .results ⌝ }
-    ensures scratch { λ r. ⌜ rules.ScratchHolds (rules.step book (now (words .entry)) what (lent (now (quantities .entry)) (now (bids .entry)) (now (prices .entry)) (now (provincial .entry)) (now (export .entry)) (now (meters .entry)) (now (interties .entry)) (now (amounts .entry)) (now (answers .entry)) (now (results .entry)) (now (scratch .entry))) .free) (now (scratch .entry)) (now (scratch .exit)) ⌝ }
+    ensures outcome { λ r. ⌜ r
+        ≡ rules.step book (now (words .entry)) what
+        (lent (now (quantities .entry)) (now (bids .entry)) (now (prices .entry)) (now (provincial .entry)) (now (export .entry))
+        (now (meters .entry)) (now (interties .entry)) (now (amounts .entry)) (now (answers .entry)) (now (results .entry))
+        (now (scratch .entry))) .outcome ⌝ }
+    ensures register { λ r. ⌜ now (words .exit)
+        ≡ rules.step book (now (words .entry)) what
+        (lent (now (quantities .entry)) (now (bids .entry)) (now (prices .entry)) (now (provincial .entry)) (now (export .entry))
+        (now (meters .entry)) (now (interties .entry)) (now (amounts .entry)) (now (answers .entry)) (now (results .entry))
+        (now (scratch .entry))) .words ⌝ }
+    ensures amounts { λ r. ⌜ now (amounts .exit)
+        ≡ rules.step book (now (words .entry)) what
+        (lent (now (quantities .entry)) (now (bids .entry)) (now (prices .entry)) (now (provincial .entry)) (now (export .entry))
+        (now (meters .entry)) (now (interties .entry)) (now (amounts .entry)) (now (answers .entry)) (now (results .entry))
+        (now (scratch .entry))) .amounts ⌝ }
+    ensures bids { λ r. ⌜ now (answers .exit)
+        ≡ rules.step book (now (words .entry)) what
+        (lent (now (quantities .entry)) (now (bids .entry)) (now (prices .entry)) (now (provincial .entry)) (now (export .entry))
+        (now (meters .entry)) (now (interties .entry)) (now (amounts .entry)) (now (answers .entry)) (now (results .entry))
+        (now (scratch .entry))) .answers ⌝ }
+    ensures paths { λ r. ⌜ now (results .exit)
+        ≡ rules.step book (now (words .entry)) what
+        (lent (now (quantities .entry)) (now (bids .entry)) (now (prices .entry)) (now (provincial .entry)) (now (export .entry))
+        (now (meters .entry)) (now (interties .entry)) (now (amounts .entry)) (now (answers .entry)) (now (results .entry))
+        (now (scratch .entry))) .results ⌝ }
+    ensures scratch { λ r. ⌜ rules.ScratchHolds
+        (rules.step book (now (words .entry)) what
+        (lent (now (quantities .entry)) (now (bids .entry)) (now (prices .entry)) (now (provincial .entry)) (now (export .entry))
+        (now (meters .entry)) (now (interties .entry)) (now (amounts .entry)) (now (answers .entry)) (now (results .entry))
+        (now (scratch .entry))) .free)
+        (now (scratch .entry)) (now (scratch .exit)) ⌝ }
 {
     match what {
-        Call::Deposit { bidder, to, amount } => funding::deposit(book, bidder, to, amount),
+        Call::Deposit { bidder, to, amount } => call_funding::deposit(book, bidder, to, amount),
         Call::Withdraw {
             bidder,
             from,
             amount,
-        } => funding::withdraw(book, bidder, from, amount),
-        Call::Open { kind, period } => opening::open(book, words, kind, period, quantities),
-        Call::Round => round::round(book, words, bids, answers, results, scratch),
-        Call::Pay { bidder, amount } => billing::pay(book, words, bidder, amount),
-        Call::Default { bidder } => defaulting::default(book, words, bidder),
-        Call::Retire { day } => retire::retire(book, words, day),
-        Call::Rent { amount } => rent::rent(book, amount),
-        Call::Payout { day, failed } => payout::payout(book, words, day, failed, prices, amounts),
-        Call::Disburse { total } => disbursement::disburse(
+        } => call_funding::withdraw(book, bidder, from, amount),
+        Call::Open { kind, period } => call_open::open(book, words, kind, period, quantities),
+        Call::Round => call_round::round(book, words, bids, answers, results, scratch),
+        Call::Pay { bidder, amount } => call_pay::pay(book, words, bidder, amount),
+        Call::Default { bidder } => call_default::default(book, words, bidder),
+        Call::Retire { day } => call_retire::retire(book, words, day),
+        Call::Rent { amount } => call_rent::rent(book, amount),
+        Call::Payout { day, failed } => call_payout::payout(
+            book,
+            words,
+            day,
+            failed,
+            prices,
+            amounts,
+        ),
+        Call::Disburse { total } => call_disburse::disburse(
             book,
             total,
             provincial,
@@ -57,7 +89,7 @@ pub fn call(
             interties,
             amounts,
         ),
-        Call::Recover { total } => disbursement::recover(
+        Call::Recover { total } => call_disburse::recover(
             book,
             total,
             provincial,

@@ -9,11 +9,11 @@ use lib.ListN.{length, drop, length-drop}
 use lib.Seq.{drop-drop}
 use borrow.Author.Tests.{eq-eqb, ne-eqb, leb-true}
 use Rattle.market.proofs.Tests.{right-true}
-use Rattle.text.specs.Decimal.{digitsIn, valueFrom, plain}
-use Rattle.fields.specs.Fields.{space, startsWith}
-use Rattle.fields.specs.declared.Field.{Field}
-use Rattle.fields.proofs.ReadLaws.{starts-fit}
-use Rattle.journal_fields.specs.JournalFields.{noField, numeralWithin, numeralOf, numeral, behind, number, closing, lastNumber, choice}
+use Rattle.text_numbers.specs.Decimal.{digitsIn, valueFrom, noLeadingZero}
+use Rattle.text_fields.specs.Fields.{space, startsWith}
+use Rattle.text_fields.specs.declared.Field.{Field}
+use Rattle.text_fields.proofs.ReadLaws.{starts-fit}
+use Rattle.journal_fields.specs.JournalFields.{noField, numeralWithin, numeralOf, numeral, fieldAfter, number, closing, lastNumber, choice}
 
 -- a word that is present at a place ends within the line
 pub word-room : (word line : List ℕ) (at : ℕ) → at ≤ length line → startsWith word (drop at line) ≡ true → at + length word ≤ length line
@@ -22,7 +22,7 @@ word-room word line at h e = omega (arith, starts-fit word (drop at line) e, len
 -- ---- What is read is within its limit
 
 within-of : (limit : ℕ) (ds : List ℕ) (t : Bool) → numeralWithin limit ds ≡ t → cond t (valueFrom 0 ds) 0 ≤ limit
-within-of limit ds true e = leb-true (valueFrom 0 ds) limit (right-true (plain ds) (leb (valueFrom 0 ds) limit) e)
+within-of limit ds true e = leb-true (valueFrom 0 ds) limit (right-true (noLeadingZero ds) (leb (valueFrom 0 ds) limit) e)
 within-of limit ds false e = omega arith
 
 value-of : (limit : ℕ) (ds : List ℕ) (t : Bool) → numeralOf limit ds .value ≡ cond (numeralWithin limit ds) (valueFrom 0 ds) 0
@@ -49,7 +49,7 @@ number-within limit text = go (startsWith (space ∷ []) text)
     f : Field
     f = numeral limit (drop 1 text)
 
-    go : (t : Bool) → (cond t (behind 1 (numeral limit (drop 1 text))) noField) .value ≤ limit
+    go : (t : Bool) → (cond t (fieldAfter 1 (numeral limit (drop 1 text))) noField) .value ≤ limit
     go true = behind-within limit 1 (numeral limit (drop 1 text)) (eqb (numeral limit (drop 1 text) .used) 0) (numeral-within limit (drop 1 text))
     go false = omega arith
 
@@ -69,14 +69,14 @@ module _ (line : List ℕ) (at : ℕ) where
   module _ (limit : ℕ) where
     pub number-absent : startsWith (space ∷ []) here ≡ false → noField ≡ number limit here
     unfolding number
-    number-absent e = ap (λ (t : Bool). cond t (behind 1 (numeral limit (drop 1 here))) noField) (sym e)
+    number-absent e = ap (λ (t : Bool). cond t (fieldAfter 1 (numeral limit (drop 1 here))) noField) (sym e)
 
     module _ (s : startsWith (space ∷ []) here ≡ true) (f : Field) (e : f ≡ numeral limit (drop (at + 1) line)) where
-      same : number limit here ≡ behind 1 f
+      same : number limit here ≡ fieldAfter 1 f
       unfolding number
       same =
-          ap (λ (t : Bool). cond t (behind 1 (numeral limit (drop 1 here))) noField) s
-          ∙ ap (behind 1) (ap (numeral limit) (drop-drop 1 at line) ∙ sym e)
+          ap (λ (t : Bool). cond t (fieldAfter 1 (numeral limit (drop 1 here))) noField) s
+          ∙ ap (fieldAfter 1) (ap (numeral limit) (drop-drop 1 at line) ∙ sym e)
 
       pub number-empty : f .used ≡ 0 → noField ≡ number limit here
       number-empty z =

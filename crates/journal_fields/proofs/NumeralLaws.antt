@@ -7,35 +7,35 @@ use native.Mathlib.Omega.{arith}
 use lib.Dec.{leb}
 use lib.ListN.{length, getD, drop}
 use borrow.Author.Tests.{le-leb, lt-leb, leb-true, leb-false, eq-eqb, ne-eqb}
-use Rattle.text.specs.Decimal.{zeroByte, digitsIn, valueFrom, plain}
-use Rattle.text.proofs.DecimalLaws.{is-digit, value-least}
-use Rattle.text.proofs.ReadLaws.{below-digits, above-digits, past-text, past-digits, first-digit}
-use Rattle.fields.specs.declared.Field.{Field}
+use Rattle.text_numbers.specs.Decimal.{zeroByte, digitsIn, valueFrom, noLeadingZero}
+use Rattle.text_numbers.proofs.DecimalLaws.{is-digit, value-least}
+use Rattle.text_numbers.proofs.ReadLaws.{below-digits, above-digits, past-text, past-digits, first-digit}
+use Rattle.text_fields.specs.declared.Field.{Field}
 use Rattle.journal_fields.specs.JournalFields.{noField, numeralOf, numeral}
 
 abbrev pub noMore : List ℕ → Bool
 noMore [] = true
 noMore (c ∷ cs) = false
 
-plain-zero : (c : ℕ) (ds : List ℕ) → c ≡ zeroByte → plain (c ∷ ds) ≡ noMore ds
+plain-zero : (c : ℕ) (ds : List ℕ) → c ≡ zeroByte → noLeadingZero (c ∷ ds) ≡ noMore ds
 plain-zero c [] e = refl
 plain-zero c (d ∷ ds) e = ap not (eq-eqb c zeroByte e)
 
-plain-some : (c : ℕ) (ds : List ℕ) → (c ≡ zeroByte → ⊥) → plain (c ∷ ds) ≡ true
+plain-some : (c : ℕ) (ds : List ℕ) → (c ≡ zeroByte → ⊥) → noLeadingZero (c ∷ ds) ≡ true
 plain-some c [] e = refl
 plain-some c (d ∷ ds) e = ap not (ne-eqb c zeroByte e)
 
-not-plain : (limit : ℕ) (ds : List ℕ) → plain ds ≡ false → noField ≡ numeralOf limit ds
+not-plain : (limit : ℕ) (ds : List ℕ) → noLeadingZero ds ≡ false → noField ≡ numeralOf limit ds
 not-plain limit ds e =
     ap (λ (t : Bool). cond (t && leb (valueFrom 0 ds) limit) (record { value = valueFrom 0 ds; used = length ds }) noField) (sym e)
 
 over : (limit : ℕ) (ds : List ℕ) → limit < valueFrom 0 ds → noField ≡ numeralOf limit ds
 over limit ds h =
     ap (λ (t : Bool). cond t (record { value = valueFrom 0 ds; used = length ds }) noField)
-    (sym (ap (λ (t : Bool). plain ds && t) (lt-leb (valueFrom 0 ds) limit h) ∙ and-false (plain ds)))
+    (sym (ap (λ (t : Bool). noLeadingZero ds && t) (lt-leb (valueFrom 0 ds) limit h) ∙ and-false (noLeadingZero ds)))
 
-stands : (limit : ℕ) (ds : List ℕ) → plain ds ≡ true → valueFrom 0 ds ≤ limit → record { value = valueFrom 0 ds; used = length ds } ≡ numeralOf limit ds
-stands limit ds e h =
+present : (limit : ℕ) (ds : List ℕ) → noLeadingZero ds ≡ true → valueFrom 0 ds ≤ limit → record { value = valueFrom 0 ds; used = length ds } ≡ numeralOf limit ds
+present limit ds e h =
     ap (λ (t : Bool). cond t (record { value = valueFrom 0 ds; used = length ds }) noField)
     (sym (ap₂ (λ (s t : Bool). s && t) e (le-leb (valueFrom 0 ds) limit h)))
 
@@ -51,8 +51,8 @@ module _ (text : List ℕ) (at limit : ℕ) where
     pub none : i ≡ at → value ≡ 0
     pub says : valueFrom 0 ds ≡ valueFrom value (digitsIn (drop i text))
     pub count : length ds + at ≡ i + length (digitsIn (drop i text))
-    pub leading : at < i → value ≡ 0 → plain ds ≡ noMore (digitsIn (drop i text))
-    pub some : at < i → 1 ≤ value → plain ds ≡ true
+    pub leading : at < i → value ≡ 0 → noLeadingZero ds ≡ noMore (digitsIn (drop i text))
+    pub some : at < i → 1 ≤ value → noLeadingZero ds ≡ true
 
   pub numeral-none : at ≤ length text → NumeralTo at 0
   numeral-none h =
@@ -82,7 +82,7 @@ module _ (text : List ℕ) (at limit : ℕ) where
         counted : length ds + at ≡ i
         counted = omega (arith, to .count, ap length e)
 
-        plain-here : (v : ℕ) → value ≡ v → at < i → plain ds ≡ true
+        plain-here : (v : ℕ) → value ≡ v → at < i → noLeadingZero ds ≡ true
         plain-here zero z past = to .leading past z ∙ ap noMore e
         plain-here (suc v) z past = to .some past (omega arith)
 
@@ -90,11 +90,11 @@ module _ (text : List ℕ) (at limit : ℕ) where
         go [] d =
             let here : i ≡ at = omega (arith, counted, ap length d) in
             let gone : i - at ≡ 0 = omega arith in
-            ap₂ made (to .none here) gone ∙ not-plain limit ds (ap plain d)
+            ap₂ made (to .none here) gone ∙ not-plain limit ds (ap noLeadingZero d)
         go (c ∷ cs) d =
             let past : at < i = omega (arith, counted, ap length d) in
             let long : i - at ≡ length ds = omega (arith, counted) in
-            ap₂ made (sym said) long ∙ stands limit ds (plain-here value refl past) (omega (arith, said, to .within))
+            ap₂ made (sym said) long ∙ present limit ds (plain-here value refl past) (omega (arith, said, to .within))
 
     pub ended-below : i < length text → getD text i 0 < zeroByte → made value (i - at) ≡ numeral limit (drop at text)
     ended-below h low = ended (past-digits text i h (below-digits (getD text i 0) low))
@@ -149,17 +149,17 @@ module _ (text : List ℕ) (at limit : ℕ) where
           front : i ≡ at → ds ≡ c ∷ rest
           front e = ap (λ (k : ℕ). digitsIn (drop k text)) (sym e) ∙ first
 
-          at-zero : (t : Bool) → leb i at ≡ t → next ≡ 0 → plain ds ≡ noMore rest
+          at-zero : (t : Bool) → leb i at ≡ t → next ≡ 0 → noLeadingZero ds ≡ noMore rest
           at-zero true e z =
               let here : i ≡ at = omega (arith, leb-true i at e, to .behind) in
-              ap plain (front here) ∙ plain-zero c rest (omega arith)
+              ap noLeadingZero (front here) ∙ plain-zero c rest (omega arith)
           at-zero false e z = absurd (let no : ⊥ = omega (arith, nonzero (omega (arith, leb-false i at e))) in no)
 
-          at-some : (t : Bool) → leb i at ≡ t → 1 ≤ next → plain ds ≡ true
+          at-some : (t : Bool) → leb i at ≡ t → 1 ≤ next → noLeadingZero ds ≡ true
           at-some true e z =
               let here : i ≡ at = omega (arith, leb-true i at e, to .behind) in
               let no : value ≡ 0 = to .none here in
-              ap plain (front here) ∙ plain-some c rest (λ q. let bad : ⊥ = omega arith in bad)
+              ap noLeadingZero (front here) ∙ plain-some c rest (λ q. let bad : ⊥ = omega arith in bad)
           at-some false e z =
               let past : at < i = omega (arith, leb-false i at e) in
               to .some past (nonzero past)

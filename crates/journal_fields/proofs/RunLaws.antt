@@ -5,10 +5,10 @@ use Prim.Native.Nat.{ℕ, suc, _+_, _≤_, _<_}
 use native.Mathlib.Omega.{arith}
 use lib.ListN.{length, drop, set, getD, length-append, length-drop}
 use lib.Seq.{drop-cons, set-at}
-use Rattle.journal_fields.specs.JournalFields.{laid}
+use Rattle.market.specs.Books.{withFront}
 
 -- one more element after what is written
-pub laid-more : {X : Type 0} (xs list : List X) (i : ℕ) (x : X) → length xs ≡ i → i < length list → set (laid xs list) i x ≡ laid (xs ++ (x ∷ [])) list
+pub laid-more : {X : Type 0} (xs list : List X) (i : ℕ) (x : X) → length xs ≡ i → i < length list → set (withFront xs list) i x ≡ withFront (xs ++ (x ∷ [])) list
 laid-more xs list i x e h =
     let d = getD list i x in
     let n : length (xs ++ (x ∷ [])) ≡ suc i = length-append xs (x ∷ []) ∙ (let k : length xs + 1 ≡ suc i = omega arith in k) in
@@ -18,6 +18,6 @@ laid-more xs list i x e h =
     ∙ sym (append-assoc xs (x ∷ []) (drop (suc i) list))
     ∙ ap (λ (k : ℕ). (xs ++ (x ∷ [])) ++ drop k list) (sym n)
 
-pub laid-length : {X : Type 0} (xs list : List X) → length xs ≤ length list → length (laid xs list) ≡ length list
+pub laid-length : {X : Type 0} (xs list : List X) → length xs ≤ length list → length (withFront xs list) ≡ length list
 laid-length xs list h =
     length-append xs (drop (length xs) list) ∙ (let k : length xs + length (drop (length xs) list) ≡ length list = omega (arith, length-drop (length xs) list) in k)

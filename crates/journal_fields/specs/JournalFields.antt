@@ -1,14 +1,14 @@
 -- docs/JOURNAL.md, "A line": "one space between fields, decimal": every field but the first comes after one space. A field read
 -- at the front of a text has its value and how many bytes it takes with that space, 0 where it is not present.
 use mathlib.Core.Bool.{Bool, cond, not, _&&_}
-use mathlib.Core.List.{List, [], _∷_, _++_}
+use mathlib.Core.List.{List, [], _∷_}
 use Prim.Native.Nat.{ℕ, zero, suc, _+_, _-_, _^_}
 use lib.Dec.{leb, eqb}
 use lib.IntN.{ℤ, pos, negℤ}
 use lib.ListN.{length, drop}
-use Rattle.text.specs.Decimal.{digitsIn, plain, valueFrom}
-use Rattle.fields.specs.Fields.{space, wordTop, startsWith}
-use Rattle.fields.specs.declared.Field.{Field}
+use Rattle.text_numbers.specs.Decimal.{digitsIn, noLeadingZero, valueFrom}
+use Rattle.text_fields.specs.Fields.{space, wordTop, startsWith}
+use Rattle.text_fields.specs.declared.Field.{Field}
 use Rattle.journal_fields.specs.declared.Price.{Price}
 
 -- "Amounts and D have up to 64 bits, prices up to 63 beside their sign"
@@ -21,12 +21,12 @@ priceTop = 2 ^ 63 - 1
 abbrev pub noField : Field
 noField = record { value = 0; used = 0 }
 
-abbrev pub stands : Field → Bool
-stands f = not (eqb (f .used) 0)
+abbrev pub present : Field → Bool
+present f = not (eqb (f .used) 0)
 
 -- these digits are a number up to a limit: decimal without leading zeros
 abbrev pub numeralWithin : ℕ → List ℕ → Bool
-numeralWithin limit ds = plain ds && leb (valueFrom 0 ds) limit
+numeralWithin limit ds = noLeadingZero ds && leb (valueFrom 0 ds) limit
 
 abbrev pub numeralOf : ℕ → List ℕ → Field
 numeralOf limit ds = cond (numeralWithin limit ds) (record { value = valueFrom 0 ds; used = length ds }) noField
@@ -36,12 +36,12 @@ unfoldable pub numeral : ℕ → List ℕ → Field
 numeral limit text = numeralOf limit (digitsIn text)
 
 -- a field after `n` other bytes
-abbrev pub behind : ℕ → Field → Field
-behind n f = cond (eqb (f .used) 0) noField (record { value = f .value; used = n + f .used })
+abbrev pub fieldAfter : ℕ → Field → Field
+fieldAfter n f = cond (eqb (f .used) 0) noField (record { value = f .value; used = n + f .used })
 
 -- a number up to a limit, after its space
 unfoldable pub number : ℕ → List ℕ → Field
-number limit text = cond (startsWith (space ∷ []) text) (behind 1 (numeral limit (drop 1 text))) noField
+number limit text = cond (startsWith (space ∷ []) text) (fieldAfter 1 (numeral limit (drop 1 text))) noField
 
 -- a field that ends the line
 abbrev pub closing : List ℕ → Field → Field
@@ -64,19 +64,19 @@ choice first second text =
 abbrev pub minus : List ℕ
 minus = space ∷ 45 ∷ []
 
-abbrev pub noPrice : Price
-noPrice = record { value = pos 0; used = 0 }
+abbrev pub absentPrice : Price
+absentPrice = record { value = pos 0; used = 0 }
 
-abbrev pub aboveZero : Field → Price
-aboveZero f = record { value = pos (f .value); used = f .used }
+abbrev pub priceOfField : Field → Price
+priceOfField f = record { value = pos (f .value); used = f .used }
 
 -- a negative number is not 0
 abbrev pub belowZero : Field → Price
-belowZero f = cond (eqb (f .value) 0) noPrice (record { value = negℤ (pos (f .value)); used = 2 + f .used })
+belowZero f = cond (eqb (f .value) 0) absentPrice (record { value = negℤ (pos (f .value)); used = 2 + f .used })
 
 unfoldable pub price : List ℕ → Price
 price text =
-    cond (startsWith minus text) (belowZero (numeral priceTop (drop 2 text))) (aboveZero (number priceTop text))
+    cond (startsWith minus text) (belowZero (numeral priceTop (drop 2 text))) (priceOfField (number priceTop text))
 
 -- ---- Lists: fields of one sort, one after another, at most as many as are asked for. `used` says how many bytes such a field
 -- takes at the front of a text, and `value` what it says.
@@ -115,7 +115,3 @@ pricesSaid = fieldsSaid priceUsed priceValue
 
 abbrev pub pricesUsed : ℕ → List ℕ → ℕ
 pricesUsed = fieldsUsed priceUsed priceValue
-
--- what was read, at the front of a list; the rest of the list stays
-abbrev pub laid : {X : Type 0} → List X → List X → List X
-laid read list = read ++ drop (length read) list

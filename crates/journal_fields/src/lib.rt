@@ -1,6 +1,6 @@
 // The fields of a journal's line. Each is read at a place of the line, with the space before it; the result also says how many
 // bytes the field takes, 0 where it is not present.
-use fields::Field;
+use text_fields::Field;
 ghost use mathlib.Core.Path.{_≡_};
 ghost use Prim.Native.Nat.{_+_, _≤_};
 ghost use lib.ListN.{length, drop};
@@ -79,7 +79,7 @@ pub fn number_at(line: &[u8], at: usize, limit: u64) -> Field
     ensures fits { λ r. ⌜ at + r .used ≤ length (now (line .entry)) ⌝ }
 {
     let none = Field { value: 0, used: 0 };
-    if !fields::starts_with(line, at, b" ") {
+    if !text_fields::starts_with(line, at, b" ") {
         return none;
     }
     let found = numeral_at(line, at + 1, limit);
@@ -111,13 +111,13 @@ pub fn choice_at(line: &[u8], at: usize, first: &[u8], second: &[u8]) -> Field
     ensures field { λ r. ⌜ r ≡ rules.choice (now (first .entry)) (now (second .entry)) (drop at (now (line .entry))) ⌝ }
     ensures fits { λ r. ⌜ at + r .used ≤ length (now (line .entry)) ⌝ }
 {
-    if fields::starts_with(line, at, first) {
+    if text_fields::starts_with(line, at, first) {
         return Field {
             value: 0,
             used: first.len(),
         };
     }
-    if fields::starts_with(line, at, second) {
+    if text_fields::starts_with(line, at, second) {
         return Field {
             value: 1,
             used: second.len(),

@@ -1,13 +1,13 @@
 -- A fresh book is sound.
 use mathlib.Core.Path.{_≡_, refl}
-use mathlib.Core.Bool.{true, not}
-use mathlib.Core.List.{List, [], _∷_, map}
+use mathlib.Core.Bool.{true}
+use mathlib.Core.List.{List, map}
 use Prim.Native.Nat.{ℕ, _-_}
 use lib.ListN.{take, replicate}
 use borrow.Author.Tests.{not-false}
 use Rattle.market.proofs.Every.{every-append, every-take, every-replicate, every-map}
-use Rattle.market.proofs.Tables.{none-holds}
-use Rattle.market.specs.Answers.{_gives_, firstOf}
+use Rattle.market.proofs.Tables.{none-hold}
+use Rattle.market.specs.Answers.{firstOf}
 use Rattle.market.specs.Books.{every, noPath}
 use Rattle.market.specs.Fresh.{soundRoute, freshRefusals, freshPath, freshPaths, freshBook}
 use Rattle.market.specs.Limits.{pathLimit}
@@ -27,10 +27,8 @@ fresh-paths-sound routes n h =
 pub fresh-sound : (routes : List Route) (n : ℕ) → firstOf (freshRefusals routes n) ≡ 0 → soundBook (freshBook routes n) ≡ true
 unfolding soundBook freshBook
 fresh-sound routes n h =
-    let rest = (not (every soundRoute (take n routes)) gives 25) ∷ [] in
-    let first = none-holds (not (soundPathCount n)) 25 rest tt h in
-    let second = none-holds (not (every soundRoute (take n routes))) 25 [] tt (first .1) in
+    let none = none-hold (freshRefusals routes n) refl h in
     rw (
-      not-false (soundPathCount n) (first .0),
-      fresh-paths-sound routes n (not-false (every soundRoute (take n routes)) (second .0)),
+      not-false (soundPathCount n) (none .0),
+      fresh-paths-sound routes n (not-false (every soundRoute (take n routes)) (none .1 .0)),
     )

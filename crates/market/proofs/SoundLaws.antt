@@ -10,7 +10,7 @@ use Rattle.market.proofs.Every.{every-at-any}
 use Rattle.market.proofs.Tests.{left-true, right-true}
 use Rattle.market.specs.Books.{every, _implies_, pathsOf, noPath, noBidder, bidderOf, noValue, heldOf}
 use Rattle.market.specs.Limits.{pathLimit, zoneLimit, quantityLimit, entryLimit, roundTwoOwedLimit, moneyLimit, owedLimit, stepLimit}
-use Rattle.market.specs.Sound.{soundPathCount, soundStage, roundOf, soundPath, soundBidder, soundAccount, soundBook}
+use Rattle.market.specs.Sound.{soundPathCount, soundStage, roundOf, soundPath, soundBidder, soundAccount, soundBook, BidderBounds, AllWithin}
 use Rattle.market.specs.declared.book.Bidder.{Bidder}
 use Rattle.market.specs.declared.book.Book.{Book}
 use Rattle.market.specs.declared.book.Path.{Path}
@@ -49,14 +49,6 @@ sound-parts b h =
       bidders = right-true (count && entries && stage && paths) bidders h₅;
       account = right-true (count && entries && stage && paths && bidders) account h;
     }
-
--- the bounds of a sound bidder
-pub record BidderBounds (x : Bidder) : Type 0 where
-  pub held : heldOf x ≤ moneyLimit
-  pub letter : x .letter .0 ≤ moneyLimit
-  pub hold : x .hold .0 ≤ x .letter .0
-  pub owed : x .owed .0 ≤ owedLimit
-  pub step : x .step ≤ stepLimit
 
 -- what the round asks of a bidder
 pub record AtRound (round : ℕ) (x : Bidder) : Type 0 where
@@ -102,10 +94,6 @@ pub bidder-sound : (b : Book) (i : ℕ) → soundBook b ≡ true → soundBidder
 bidder-sound b i h =
     let round = roundOf (b .stage) in
     every-at-any (soundBidder round) (b .bidders) i noBidder (sound-parts b h .bidders) (nothing-sound round)
-
--- the bidder with any number is within the bounds
-abbrev pub AllWithin : List Bidder → Type 0
-AllWithin bidders = (i : ℕ) → BidderBounds (getD bidders i noBidder)
 
 -- in a sound book the bidder with any number is within the bounds
 pub bidder-within : (b : Book) (i : ℕ) → soundBook b ≡ true → BidderBounds (bidderOf b i)

@@ -4,21 +4,13 @@ use mathlib.Core.Bool.{Bool, true, false, cond}
 use mathlib.Core.List.{List, [], _∷_, _++_}
 use Prim.Native.Nat.{ℕ, zero, suc, _<_}
 use native.Mathlib.Omega.{arith}
-use lib.Dec.{T, ltb, ltb→lt}
+use lib.Dec.{T, ltb}
 use borrow.Author.Tests.{ltb-true}
 use Rattle.market.proofs.Tests.{left-true, right-true}
 use Rattle.market.specs.Books.{every}
 use Rattle.market.specs.Answers.{Row, _gives_, firstOf, answerNumber, decided, decidedList, refused}
 use Rattle.market.specs.declared.answer.Outcome.{Outcome}
 use Rattle.market.specs.declared.book.Book.{Book}
-
--- if no row of a table holds, its first row's test is false and no row of the rest holds
-pub none-holds : (test : Bool) (number : ℕ) (rows : List Row) → T (ltb 0 number) → firstOf ((test gives number) ∷ rows) ≡ 0 → (test ≡ false) × (firstOf rows ≡ 0)
-none-holds true number rows above h = absurd (clash (ltb→lt 0 number above))
-  where
-    clash : 0 < number → ⊥
-    clash p = omega arith
-none-holds false number rows above h = (refl, h)
 
 -- a call is refused where its table gives a number, and taken where it gives none
 pub is-refused : (b : Book) (n : ℕ) (taken : Outcome) → (n ≡ 0 → ⊥) → decided b n taken ≡ refused b n
@@ -88,6 +80,23 @@ both true k a b c above h rest =
     let positive : 0 < k = ltb-true 0 k above in
     absurd (omega arith)
 both false k a b c above h rest = rest h
+
+-- if a table gives no number, the test of each row is false
+abbrev pub NoneHold : List Row → Type 0
+NoneHold [] = T true
+NoneHold (row ∷ rows) = (row .0 ≡ false) × NoneHold rows
+
+first-false : (t : Bool) (k n : ℕ) → ltb 0 k ≡ true → cond t k n ≡ 0 → (t ≡ false) × (n ≡ 0)
+first-false true k n above h =
+    let positive : 0 < k = ltb-true 0 k above in
+    absurd (omega arith)
+first-false false k n above h = (refl, h)
+
+pub none-hold : (rows : List Row) → every numbered rows ≡ true → firstOf rows ≡ 0 → NoneHold rows
+none-hold [] n h = tt
+none-hold (row ∷ rows) n h =
+    let first = first-false (row .0) (row .1) (firstOf rows) (left-true (numbered row) (every numbered rows) n) h in
+    (first .0, none-hold rows (right-true (numbered row) (every numbered rows) n) (first .1))
 
 -- if the whole table gives no number, neither part does
 pub neither-holds : (rows more : List Row) → every numbered rows ≡ true → firstOf (rows ++ more) ≡ 0 → (firstOf rows ≡ 0) × (firstOf more ≡ 0)

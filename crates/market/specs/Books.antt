@@ -1,11 +1,11 @@
 -- Document 01, "Book and units": what the book holds, and a book with one part changed. The types themselves are those that
 -- `src/` declares.
 use mathlib.Core.Bool.{Bool, true, not, _&&_, _||_}
-use mathlib.Core.List.{List, [], _∷_}
+use mathlib.Core.List.{List, [], _∷_, _++_}
 use Prim.Native.Nat.{ℕ, _+_}
 use lib.Dec.{eqb}
 use lib.IntN.{ℤ}
-use lib.ListN.{take, getD, set}
+use lib.ListN.{length, take, drop, getD, set}
 use Rattle.market.specs.declared.book.Bidder.{Bidder}
 use Rattle.market.specs.declared.book.Book.{Book}
 use Rattle.market.specs.declared.book.Direction.the-variants.{Export}
@@ -16,11 +16,16 @@ use Rattle.market.specs.declared.units.Balance.{Balance}
 use Rattle.market.specs.declared.units.Cents.{Cents}
 use Rattle.market.specs.declared.units.Day.{Day}
 use Rattle.market.specs.declared.units.Megawatts.{Megawatts}
+use Rattle.market.specs.declared.units.ZonePrice.{ZonePrice}
 
 -- a test holds of every element of a list
 abbrev pub every {ℓ} : {A : Type ℓ} → (A → Bool) → List A → Bool
 every test [] = true
 every test (x ∷ xs) = test x && every test xs
+
+-- other elements at the front of a list; those after them stay
+abbrev pub withFront : {X : Type 0} → List X → List X → List X
+withFront front list = front ++ drop (length front) list
 
 -- one test holds wherever another does
 infix 25 _implies_
@@ -40,9 +45,16 @@ dayNumber n = record { 0 = n }
 abbrev pub balance : ℤ → Balance
 balance z = record { 0 = z }
 
+abbrev pub zonePrice : ℤ → ZonePrice
+zonePrice z = record { 0 = z }
+
 -- "The book holds 1 to 16 paths, numbered from 0": slots past the count are no part of the book
 abbrev pub pathsOf : Book → List Path
 pathsOf b = take (b .«path_count») (b .paths)
+
+-- the MW that the auction offers of a path
+abbrev pub offerOf : Path → ℕ
+offerOf p = p .offer .0
 
 -- an empty path, which fills the slots past the book's paths
 abbrev pub noPath : Path

@@ -1,10 +1,12 @@
 -- Document 01, "A sound book has ..": each part of that sentence as a test, in its order, and the whole.
 use mathlib.Core.Bool.{Bool, true, false, _&&_, _||_}
-use Prim.Native.Nat.{ℕ}
+use mathlib.Core.List.{List}
+use Prim.Native.Nat.{ℕ, _≤_}
 use lib.Dec.{leb, eqb}
 use lib.IntN.{ℤ, pos, negℤ}
+use lib.ListN.{getD}
 use lib.Signed.{leZ}
-use Rattle.market.specs.Books.{every, _implies_, dayNumber, pathsOf, noValue, heldOf}
+use Rattle.market.specs.Books.{every, _implies_, dayNumber, pathsOf, noBidder, noValue, heldOf}
 use Rattle.market.specs.Limits.{pathLimit, zoneLimit, entryLimit, roundTwoOwedLimit, moneyLimit, owedLimit, stepLimit, accountLimit, quantityLimit, dayLimit}
 use Rattle.market.specs.declared.book.Bidder.{Bidder}
 use Rattle.market.specs.declared.book.Book.{Book}
@@ -90,3 +92,15 @@ soundBook b =
     && every (soundPath (roundOf (b .stage))) (pathsOf b)
     && every (soundBidder (roundOf (b .stage))) (b .bidders)
     && soundAccount (b .account .0)
+
+-- what holds of a sound bidder at any round, as functions that work on one ask for it
+pub record BidderBounds (x : Bidder) : Type 0 where
+  pub held : heldOf x ≤ moneyLimit
+  pub letter : x .letter .0 ≤ moneyLimit
+  pub hold : x .hold .0 ≤ x .letter .0
+  pub owed : x .owed .0 ≤ owedLimit
+  pub step : x .step ≤ stepLimit
+
+-- the bidder with any number is within the bounds
+abbrev pub AllWithin : List Bidder → Type 0
+AllWithin bidders = (i : ℕ) → BidderBounds (getD bidders i noBidder)

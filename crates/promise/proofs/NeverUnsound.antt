@@ -15,9 +15,9 @@ use Rattle.market.specs.Sound.{soundBook}
 use Rattle.market.specs.declared.book.Book.{Book}
 use Rattle.market.specs.declared.book.Entry.{Entry}
 use Rattle.register.specs.Refusals.{soundEntries}
-use Rattle.bids.specs.Bids.{Bid, bidAt, bidEnd, bidsOf}
-use Rattle.bids.specs.Faults.{bidRefusals, refusalsFrom, listRefusals}
-use Rattle.round.specs.Round.{roomRefusals}
+use Rattle.round_bids.specs.Bids.{Bid, bidAt, bidEnd, bidsOf}
+use Rattle.round_bids.specs.BidRefusals.{bidRefusals, refusalsFrom, listRefusals}
+use Rattle.call_round.specs.Round.{roomRefusals}
 use Rattle.engine.specs.Lent.{Lent}
 use Rattle.engine.specs.declared.calls.Call.{Call}
 use Rattle.engine.specs.declared.calls.Call.the-variants.{Deposit, Withdraw, Open, Round, Pay, Default, Retire, Rent, Payout, Disburse, Recover}

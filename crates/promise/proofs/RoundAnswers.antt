@@ -13,25 +13,26 @@ use Rattle.market.specs.Limits.{bidLimit, pathLimit, bidderLimit}
 use Rattle.market.specs.declared.answer.Answer.the-variants.{Bids}
 use Rattle.market.specs.declared.answer.Outcome.{Outcome}
 use Rattle.market.specs.declared.book.Book.{Book}
-use Rattle.bids.proofs.Walk.{bids-few}
-use Rattle.bids.specs.Bids.{Bid, bidsOf}
-use Rattle.bids.specs.Encoding.{rightBids}
-use Rattle.admission.proofs.MarkLaws.{marks-length}
-use Rattle.admission.specs.Admission.{biddingLimits}
-use Rattle.awards.proofs.BestAward.{best-award, charge-within}
-use Rattle.awards.proofs.RoundLots.{EachBid}
-use Rattle.awards.specs.Awards.{Lot, lotsOf, awardsOf, wonBy, chargeOf}
-use Rattle.awards.specs.Rivals.{Rival, Legal, rivalValue, filledValue, valueFrom, totalValue}
-use Rattle.awarding.proofs.TableLaws.{below-at, below-length, table-is}
-use Rattle.awarding.specs.Tables.{below}
-use Rattle.clearing.specs.Clearing.{bidRows, laid}
-use Rattle.closing.specs.Closing.{pathRows}
-use Rattle.round.proofs.ReadyLaws.{listed}
-use Rattle.round.proofs.RoundBounds.{noBid}
-use Rattle.round.specs.Answers.{markIn, wonIn, chargeIn, offeredIn}
-use Rattle.round.specs.Round.{offeredNow, marksNow, awardsNow, wonNow, soldNow, pricesNow, bookAfter, roundTable, round, roundBidAnswers, roundPathAnswers}
-use Rattle.keeping_round.proofs.ChargeLimits.{all-bids, below-most, charge-table}
-use Rattle.keeping_round.proofs.RoundCleared.{RoundOpen, round-cleared}
+use Rattle.round_bids.proofs.Walk.{bids-few}
+use Rattle.round_bids.specs.Bids.{Bid, bidsOf}
+use Rattle.round_bids.specs.Encoding.{rightBids}
+use Rattle.round_admission.proofs.MarkLaws.{marks-length}
+use Rattle.round_admission.specs.Admission.{biddingLimits}
+use Rattle.round_award_rules.proofs.BestAward.{best-award, charge-within}
+use Rattle.round_award_rules.proofs.RoundClaims.{EachBid}
+use Rattle.round_award_rules.specs.Awards.{Claim, claimsOf, awardsOf, wonBy, chargeOf}
+use Rattle.round_award_rules.specs.Rivals.{Rival, Legal, rivalValue, filledValue, totalValueFrom, totalValue}
+use Rattle.round_awards.proofs.TableLaws.{below-at, below-length, table-is}
+use Rattle.round_awards.specs.Tables.{below}
+use Rattle.round_charges.specs.Charges.{bidRows}
+use Rattle.market.specs.Books.{withFront}
+use Rattle.round_paths.specs.PathRows.{pathRows}
+use Rattle.call_round.proofs.ReadyLaws.{listed}
+use Rattle.call_round.proofs.RoundBounds.{noBid}
+use Rattle.call_round.specs.Answers.{markIn, wonIn, chargeIn, offeredIn}
+use Rattle.call_round.specs.Round.{offeredNow, marksNow, awardsNow, wonNow, soldNow, pricesNow, bookAfter, roundTable, round, roundBidAnswers, roundPathAnswers}
+use Rattle.promise_invariants.proofs.ChargeLimits.{all-bids, below-most, charge-table}
+use Rattle.promise_invariants.proofs.RoundCleared.{RoundOpen, round-cleared}
 use Rattle.engine.specs.Lent.{Lent}
 use Rattle.engine.specs.Step.{step}
 use Rattle.engine.specs.declared.calls.Call.the-variants.{Round}
@@ -41,7 +42,7 @@ use Rattle.promise.proofs.RowReads.{mark-read, won-read, charge-read, o
 
 -- ---- Sums over bids
 
-value-same : (f g : ℕ → ℕ) (n : ℕ) (bs : List Bid) → EachBid (λ k b. f k ≡ g k) n bs → valueFrom f n bs ≡ valueFrom g n bs
+value-same : (f g : ℕ → ℕ) (n : ℕ) (bs : List Bid) → EachBid (λ k b. f k ≡ g k) n bs → totalValueFrom f n bs ≡ totalValueFrom g n bs
 value-same f g n [] same = refl
 value-same f g n (b ∷ bs) same =
     ap₂ (λ (won rest : ℕ). filledValue won (b .laminations) + rest) (same .0) (value-same f g (n + 1) bs (same .1))
@@ -69,29 +70,34 @@ below-under n f l same i =
     omega (arith, ap (λ (m : List ℕ). getD m i 0) alike, below-most n (λ k. getD l k 0) i)
 
 -- a rival award that was within the offer is still within it where more is offered
-legal-with-more : (less more : List ℕ) (lots : List Lot) (gives : Rival) → ((path : ℕ) → getD less path 0 ≤ getD more path 0) → Legal less lots gives → Legal more lots gives
-legal-with-more less more lots gives under legal =
+legal-with-more : (less more : List ℕ) (claims : List Claim) (gives : Rival) → ((path : ℕ) → getD less path 0 ≤ getD more path 0) → Legal less claims gives → Legal more claims gives
+legal-with-more less more claims gives under legal =
     record { own = legal .own; shared = λ path. omega (arith, legal .shared path, under path) }
 
 -- ---- Lists that read as an award
 
-module _ (paths : ℕ) (offered : List ℕ) (bids : List Bid) (marks : List ℕ) (right : rightBids paths bids ≡ true) (answers : List ℕ) (wins : (k : ℕ) → k < length bids → wonIn answers k ≡ wonBy k (awardsOf offered bids marks)) where
-  module _ (results : List ℕ) (count : ℕ) (long : length marks ≡ length bids) (marked : (k : ℕ) → k < length bids → markIn answers k ≡ getD marks k 0) (offers : (path : ℕ) → path < count → offeredIn results path ≡ getD offered path 0) where
-    same-lots : lotsOf bids marks ≡ lotsOf bids (below (length bids) (markIn answers))
-    same-lots =
-        ap (λ (l : List ℕ). lotsOf bids l)
+module _ (paths : ℕ) (offered : List ℕ) (bids : List Bid) (marks : List ℕ) (right : rightBids paths bids ≡ true) (answers : List ℕ)
+    (wins : (k : ℕ) → k < length bids → wonIn answers k ≡ wonBy k (awardsOf offered bids marks)) where
+  module _ (results : List ℕ) (count : ℕ) (long : length marks ≡ length bids) (marked : (k : ℕ) → k < length bids → markIn answers k ≡ getD marks k 0)
+      (offers : (path : ℕ) → path < count → offeredIn results path ≡ getD offered path 0) where
+    same-claims : claimsOf bids marks ≡ claimsOf bids (below (length bids) (markIn answers))
+    same-claims =
+        ap (λ (l : List ℕ). claimsOf bids l)
         (table-is marks (length bids) (markIn answers) long (λ k inside. sym (marked k inside)))
 
-    best-of : (gives : Rival) → Legal (below count (offeredIn results)) (lotsOf bids marks) gives → rivalValue gives (lotsOf bids marks) ≤ totalValue (wonIn answers) bids
+    best-of : (gives : Rival) → Legal (below count (offeredIn results)) (claimsOf bids marks) gives → rivalValue gives (claimsOf bids marks) ≤ totalValue (wonIn answers) bids
     best-of gives legal =
         let awards = awardsOf offered bids marks in
         let value = value-same (wonIn answers) (λ k. wonBy k awards) 0 bids (all-bids (λ k b. wonIn answers k ≡ wonBy k awards) bids noBid wins) in
-        let more = legal-with-more (below count (offeredIn results)) offered (lotsOf bids marks) gives (below-under count (offeredIn results) offered offers) legal in
+        let more = legal-with-more (below count (offeredIn results)) offered (claimsOf bids marks) gives (below-under count (offeredIn results) offered offers) legal in
         omega (arith, value, best-award paths offered bids marks right gives more)
 
-    best-read : (gives : Rival) → Legal (below count (offeredIn results)) (lotsOf bids (below (length bids) (markIn answers))) gives → rivalValue gives (lotsOf bids (below (length bids) (markIn answers))) ≤ totalValue (wonIn answers) bids
+    best-read :
+        (gives :
+        Rival) → Legal (below count (offeredIn results)) (claimsOf bids (below (length bids) (markIn answers))) gives
+        → rivalValue gives (claimsOf bids (below (length bids) (markIn answers))) ≤ totalValue (wonIn answers) bids
     best-read =
-        subst (λ (lots : List Lot). (gives : Rival) → Legal (below count (offeredIn results)) lots gives → rivalValue gives lots ≤ totalValue (wonIn answers) bids) same-lots best-of
+        subst (λ (claims : List Claim). (gives : Rival) → Legal (below count (offeredIn results)) claims gives → rivalValue gives claims ≤ totalValue (wonIn answers) bids) same-claims best-of
 
   module _ (charged : (k : ℕ) (d : Bid) → k < length bids → chargeIn answers k ≤ chargeOf k (getD bids k d) (awardsOf offered bids marks)) where
     charges-read : (k : ℕ) (d : Bid) → k < length bids → chargeIn answers k ≤ filledValue (wonIn answers k) (getD bids k d .laminations)
@@ -142,18 +148,18 @@ module _ (b : Book) (words : List ℕ) (l : Lent) (none : answerNumber (round b 
 
   pub few : length bids ≤ bidLimit
   few =
-      bids-few pathLimit (l .bids) (listed b words (l .bids) (l .answers) (l .results) (l .scratch) (opened .early)) (opened .early .short)
+      bids-few pathLimit (l .bids) (listed b words (l .bids) (l .answers) (l .results) (l .scratch) (opened .early) .sound) (opened .early .short)
 
   -- its lists, and the number of the book's paths
-  pub answers-are : answers ≡ laid (l .answers) (bidRows marks (wonNow b bids) (pricesNow b bids) bids)
+  pub answers-are : answers ≡ withFront (bidRows marks (wonNow b bids) (pricesNow b bids) bids) (l .answers)
   unfolding roundBidAnswers
-  answers-are = list-taken (l .answers) refusal (laid (l .answers) (bidRows marks (wonNow b bids) (pricesNow b bids) bids)) cleared
+  answers-are = list-taken (l .answers) refusal (withFront (bidRows marks (wonNow b bids) (pricesNow b bids) bids) (l .answers)) cleared
 
-  pub results-are : results ≡ laid (l .results) (pathRows (offeredNow b) (soldNow b bids) (pricesNow b bids) (b .«path_count»))
+  pub results-are : results ≡ withFront (pathRows (offeredNow b) (soldNow b bids) (pricesNow b bids) (b .«path_count»)) (l .results)
   unfolding roundPathAnswers
   results-are =
       list-taken (l .results) refusal
-      (laid (l .results) (pathRows (offeredNow b) (soldNow b bids) (pricesNow b bids) (b .«path_count»))) cleared
+      (withFront (pathRows (offeredNow b) (soldNow b bids) (pricesNow b bids) (b .«path_count»)) (l .results)) cleared
 
   pub same-paths : after .«path_count» ≡ b .«path_count»
   unfolding round

@@ -6,9 +6,9 @@ use lib.IntN.{ℤ, pos, negℤ, _+ℤ_, _-ℤ_, +ℤ-assoc, +ℤ-comm, negℤ-+�
 use Rattle.market.specs.Answers.{answerNumber}
 use Rattle.market.specs.declared.book.Book.{Book}
 use Rattle.register.specs.Refusals.{countedEntries}
-use Rattle.keeping.proofs.Lifting.{nothing-moved}
-use Rattle.keeping.specs.Money.{worth}
-use Rattle.keeping.specs.State.{State}
+use Rattle.promise_invariants.proofs.Lifting.{nothing-moved}
+use Rattle.promise_invariants.specs.Money.{worth}
+use Rattle.promise_invariants.specs.State.{SoundState}
 use Rattle.promise.specs.Promise.{EachCall, NotUnsound}
 use Rattle.promise.specs.Runs.{Request, Made, engineMade, engineStep, engineRun, rulesStep, rulesRun}
 use Rattle.promise.specs.Sums.{moneyIn, moneyOut, allIn, allOut, lastBook}
@@ -17,7 +17,10 @@ use Rattle.promise.proofs.NeverUnsound.{ruled-not-two}
 use Rattle.promise.proofs.SameStep.{step-same}
 
 -- a fact of every call that is made in a sound state
-pub each-call : (P : Made → Type 0) → ((b : Book) (words : List ℕ) → State b words → (r : Request) → P (engineMade r (engineStep b words r))) → (b : Book) (words : List ℕ) → State b words → (calls : List Request) → EachCall P (engineRun b words calls)
+pub each-call :
+    (P :
+    Made → Type 0) → ((b : Book) (words : List ℕ) → SoundState b words → (r : Request) → P (engineMade r (engineStep b words r))) → (b : Book) (words : List ℕ) → SoundState b words
+    → (calls : List Request) → EachCall P (engineRun b words calls)
 each-call P fact b words state [] = tt
 each-call P fact b words state (r ∷ rs) = (
   fact b words state r,
@@ -25,7 +28,7 @@ each-call P fact b words state (r ∷ rs) = (
 )
 
 -- the engine's run is the rules'
-pub run-same : (b : Book) (words : List ℕ) → State b words → (calls : List Request) → engineRun b words calls ≡ rulesRun b (countedEntries b words) calls
+pub run-same : (b : Book) (words : List ℕ) → SoundState b words → (calls : List Request) → engineRun b words calls ≡ rulesRun b (countedEntries b words) calls
 run-same b words state [] = refl
 run-same b words state (r ∷ rs) =
     ap₂ _∷_ here
@@ -36,7 +39,7 @@ run-same b words state (r ∷ rs) =
     here = step-same b words state r
 
 -- 2 is not among the answers
-pub step-not-unsound : (b : Book) (words : List ℕ) → State b words → (r : Request) → NotUnsound (engineMade r (engineStep b words r))
+pub step-not-unsound : (b : Book) (words : List ℕ) → SoundState b words → (r : Request) → NotUnsound (engineMade r (engineStep b words r))
 step-not-unsound b words state r two =
     ruled-not-two b (countedEntries b words) (state .sound) (state .entries) (r .what) (r .lent)
     (ap (λ (m : Made). answerNumber (m .reply .answer)) (sym (step-same b words state r)) ∙ two)
@@ -55,7 +58,10 @@ sums-add z i o more out =
     (+ℤ-assoc z (pos i) (pos more) ∙ ap (λ (k : ℤ). z +ℤ k) (pos-+ℤ-pos i more))
     (sym (negℤ-+ℤ (pos o) (pos out)) ∙ ap negℤ (pos-+ℤ-pos o out))
 
-pub run-money : (b : Book) (words : List ℕ) → State b words → (calls : List Request) → worth (lastBook b (engineRun b words calls)) ≡ worth b +ℤ pos (allIn (engineRun b words calls)) -ℤ pos (allOut (engineRun b words calls))
+pub run-money :
+    (b :
+    Book) (words : List ℕ) → SoundState b words → (calls : List Request)
+    → worth (lastBook b (engineRun b words calls)) ≡ worth b +ℤ pos (allIn (engineRun b words calls)) -ℤ pos (allOut (engineRun b words calls))
 run-money b words state [] = nothing-moved (worth b)
 run-money b words state (r ∷ rs) =
     run-money after (engineStep b words r .words) (step-keeps b words state r) rs

@@ -20,27 +20,27 @@ use Rattle.register.proofs.EntryLaws.{changed-length}
 use Rattle.register.proofs.WordLaws.{entries-read}
 use Rattle.register.specs.Entries.{issuedTo, without}
 use Rattle.register.specs.Refusals.{registerRefusals, countedEntries}
-use Rattle.register.specs.Words.{entriesOf, written}
+use Rattle.register.specs.Words.{entriesOf, entriesWritten}
 use Rattle.register.specs.declared.Removal.the-variants.{PendingOf, EndedBefore}
-use Rattle.funding.specs.Deposit.{depositRefusals, credited, deposit}
-use Rattle.funding.specs.Withdraw.{withdrawRefusals, debited, withdraw}
-use Rattle.funding.specs.declared.Funds.{Funds}
-use Rattle.rent.specs.Rent.{rentRefusals, accountAfter, rent}
-use Rattle.billing.specs.Pay.{payRefusals, bookPaid, pay, payWords}
-use Rattle.defaulting.specs.Default.{defaultRefusals, drawOf, bookForfeited, default, defaultWords}
-use Rattle.retire.specs.Retire.{retireRefusals, retire, retireWords}
-use Rattle.payout.specs.Payout as payouts
-use Rattle.pools.specs.Pools.{sharesOf}
-use Rattle.disbursement.specs.Disbursement as pools
-use Rattle.disbursement.specs.declared.flow.Flow.the-variants.{Out, In}
-use Rattle.opened_paths.specs.OpenedPaths.{wordsNeeded}
-use Rattle.opening.specs.Open as openings
-use Rattle.bids.specs.Bids.{bidsOf}
-use Rattle.bids.specs.Faults.{listRefusals}
-use Rattle.round.specs.Round as rounds
-use Rattle.keeping.specs.State.{State}
-use Rattle.keeping_round.proofs.KeepRound.{more-read}
-use Rattle.engine.specs.Lent.{Lent, columnsOf}
+use Rattle.call_funding.specs.Deposit.{depositRefusals, withDeposit, deposit}
+use Rattle.call_funding.specs.Withdraw.{withdrawRefusals, debited, withdraw}
+use Rattle.call_funding.specs.declared.Funds.{Funds}
+use Rattle.call_rent.specs.Rent.{rentRefusals, accountWithRent, rent}
+use Rattle.call_pay.specs.Pay.{payRefusals, bookPaid, pay, payWords}
+use Rattle.call_default.specs.Default.{defaultRefusals, drawOf, bookForfeited, default, defaultWords}
+use Rattle.call_retire.specs.Retire.{retireRefusals, retire, retireWords}
+use Rattle.call_payout.specs.Payout as payouts
+use Rattle.pool_columns.specs.Pools.{sharesOf}
+use Rattle.call_disburse.specs.Disbursement as pools
+use Rattle.call_disburse.specs.declared.flow.Flow.the-variants.{Out, In}
+use Rattle.call_open.specs.OpenedPaths.{wordsNeeded}
+use Rattle.call_open.specs.Open as openings
+use Rattle.round_bids.specs.Bids.{bidsOf}
+use Rattle.round_bids.specs.BidRefusals.{listRefusals}
+use Rattle.call_round.specs.Round as rounds
+use Rattle.promise_invariants.specs.State.{SoundState}
+use Rattle.promise_invariants.proofs.KeepRound.{more-read}
+use Rattle.engine.specs.Lent.{Lent, poolListsOf}
 use Rattle.engine.specs.Step as engine
 use Rattle.engine.specs.declared.calls.Call.{Call}
 use Rattle.engine.specs.declared.calls.Call.the-variants.{Deposit, Withdraw, Open, Round, Pay, Default, Retire, Rent, Payout, Disburse, Recover}
@@ -57,23 +57,38 @@ module _ (r : Request) (b : Book) (words : List ℕ) where
   es = countedEntries b words
 
   -- a call that leaves the register alone
-  book-step : (n : ℕ) (done : Outcome) → countedEntries (done .book) words ≡ es → engineMade r (engine.leaves l (decided b n done) words) ≡ rulesMade r (rules.decidedEffect b es l n (rules.leaves l done es))
-  book-step zero done read = ap (λ (e : List Entry). rulesMade r (rules.leaves l done e)) read
+  book-step :
+      (n :
+      ℕ) (done : Outcome) → countedEntries (done .book) words ≡ es
+      → engineMade r (engine.leftPlain l (decided b n done) words) ≡ rulesMade r (rules.decidedEffect b es l n (rules.effectPlain l done es))
+  book-step zero done read = ap (λ (e : List Entry). rulesMade r (rules.effectPlain l done e)) read
   book-step (suc n) done read = refl
 
   -- one that writes to it
-  register-step : (n : ℕ) (done : Outcome) (after : List ℕ) (left : List Entry) → countedEntries (done .book) after ≡ left → engineMade r (engine.leaves l (decided b n done) (decidedList words n after)) ≡ rulesMade r (rules.decidedEffect b es l n (rules.leaves l done left))
-  register-step zero done after left read = ap (λ (e : List Entry). rulesMade r (rules.leaves l done e)) read
+  register-step :
+      (n :
+      ℕ) (done : Outcome) (after : List ℕ) (left : List Entry) → countedEntries (done .book) after ≡ left
+      → engineMade r (engine.leftPlain l (decided b n done) (decidedList words n after)) ≡ rulesMade r (rules.decidedEffect b es l n (rules.effectPlain l done left))
+  register-step zero done after left read = ap (λ (e : List Entry). rulesMade r (rules.effectPlain l done e)) read
   register-step (suc n) done after left read = refl
 
   -- one that writes to the list of amounts
-  amounts-step : (n : ℕ) (done : Outcome) (amounts : List ℕ) → countedEntries (done .book) words ≡ es → engineMade r (engine.shares l (decided b n done) words (decidedList (l .amounts) n (amounts ++ drop bidderLimit (l .amounts)))) ≡ rulesMade r (rules.decidedEffect b es l n (rules.shares l done es amounts))
-  amounts-step zero done amounts read = ap (λ (e : List Entry). rulesMade r (rules.shares l done e amounts)) read
+  amounts-step :
+      (n :
+      ℕ) (done : Outcome) (amounts : List ℕ) → countedEntries (done .book) words ≡ es
+      → engineMade r (engine.leftSharing l (decided b n done) words (decidedList (l .amounts) n (amounts ++ drop bidderLimit (l .amounts))))
+      ≡ rulesMade r (rules.decidedEffect b es l n (rules.effectSharing l done es amounts))
+  amounts-step zero done amounts read = ap (λ (e : List Entry). rulesMade r (rules.effectSharing l done e amounts)) read
   amounts-step (suc n) done amounts read = refl
 
   -- a round
-  round-step : (n : ℕ) (free : Bool) (after : List ℕ) (done : rules.Effect) → countedEntries (done .outcome .book) after ≡ done .entries → l .amounts ≡ done .amounts → engineMade r (engine.clears l (decided b n (done .outcome)) (decidedList words n after) (decidedList (l .answers) n (done .answers)) (decidedList (l .results) n (done .results)) free) ≡ rulesMade r (rules.decidedEffect b es l n done)
-  round-step zero free after done read same = ap₂ (λ (e : List Entry) (amounts : List ℕ). rulesMade r (record { outcome = done .outcome; entries = e; amounts = amounts; answers = done .answers; results = done .results })) read same
+  round-step :
+      (n :
+      ℕ) (free : Bool) (after : List ℕ) (done : rules.Effect) → countedEntries (done .outcome .book) after ≡ done .entries → l .amounts ≡ done .amounts
+      → engineMade r (engine.leftRound l (decided b n (done .outcome)) (decidedList words n after) (decidedList (l .answers) n (done .answers)) (decidedList (l .results) n (done .results)) free)
+      ≡ rulesMade r (rules.decidedEffect b es l n done)
+  round-step zero free after done read same =
+      ap₂ (λ (e : List Entry) (amounts : List ℕ). rulesMade r (record { outcome = done .outcome; entries = e; amounts = amounts; answers = done .answers; results = done .results })) read same
   round-step (suc n) free after done read same = refl
 
 -- ---- The same refusal: the register is long enough, and its entries are the rules' entries
@@ -85,7 +100,10 @@ module _ (b : Book) (words : List ℕ) (long : registerWords ≤ length words) w
       (le-ltb (length words) registerWords long)
 
   -- the step for a number that is the same
-  by-number : (r : Request) (effect : rules.Effect) (n m : ℕ) (made : Made) → n ≡ m → made ≡ rulesMade r (rules.decidedEffect b (countedEntries b words) (r .lent) n effect) → made ≡ rulesMade r (rules.decidedEffect b (countedEntries b words) (r .lent) m effect)
+  by-number :
+      (r :
+      Request) (effect : rules.Effect) (n m : ℕ) (made : Made) → n ≡ m → made ≡ rulesMade r (rules.decidedEffect b (countedEntries b words) (r .lent) n effect)
+      → made ≡ rulesMade r (rules.decidedEffect b (countedEntries b words) (r .lent) m effect)
   by-number r effect n m made same is =
       is ∙ ap (λ (k : ℕ). rulesMade r (rules.decidedEffect b (countedEntries b words) (r .lent) k effect)) same
 
@@ -102,7 +120,7 @@ module _ (b : Book) (words : List ℕ) (long : registerWords ≤ length words) w
     unfolding deposit
     deposit-same bidder to amount =
         book-step (asked (Deposit bidder to amount)) b words (firstOf (depositRefusals b bidder to amount))
-        (answered (withBidder b bidder (credited (bidderOf b bidder) to amount))) refl
+        (answered (withBidder b bidder (withDeposit (bidderOf b bidder) to amount))) refl
 
     withdraw-same : (bidder : ℕ) (from : Funds) (amount : Cents) → Same (Withdraw bidder from amount)
     unfolding withdraw
@@ -114,28 +132,29 @@ module _ (b : Book) (words : List ℕ) (long : registerWords ≤ length words) w
     unfolding rent
     rent-same amount =
         book-step (asked (Rent amount)) b words (firstOf (rentRefusals b amount))
-        (answered (withAccount b (accountAfter b amount))) refl
+        (answered (withAccount b (accountWithRent b amount))) refl
 
     disburse-same : (total : Cents) → Same (Disburse total)
     unfolding pools.outcome pools.sharesAfter
     disburse-same total =
-        amounts-step (asked (Disburse total)) b words (firstOf (pools.refusals Out b total (columnsOf l)))
-        (answered (withAccount b (pools.accountAfter Out b total)))
-        (sharesOf (total .0) (pools.columnsOf (columnsOf l))) refl
+        amounts-step (asked (Disburse total)) b words (firstOf (pools.flowRefusals Out b total (poolListsOf l)))
+        (answered (withAccount b (pools.accountAfterFlow Out b total)))
+        (sharesOf (total .0) (pools.columnsOf (poolListsOf l))) refl
 
     recover-same : (total : Cents) → Same (Recover total)
     unfolding pools.outcome pools.sharesAfter
     recover-same total =
-        amounts-step (asked (Recover total)) b words (firstOf (pools.refusals In b total (columnsOf l)))
-        (answered (withAccount b (pools.accountAfter In b total)))
-        (sharesOf (total .0) (pools.columnsOf (columnsOf l))) refl
+        amounts-step (asked (Recover total)) b words (firstOf (pools.flowRefusals In b total (poolListsOf l)))
+        (answered (withAccount b (pools.accountAfterFlow In b total)))
+        (sharesOf (total .0) (pools.columnsOf (poolListsOf l))) refl
 
     pay-same : (bidder : ℕ) (amount : Cents) → Same (Pay bidder amount)
     unfolding pay payWords
     pay-same bidder amount =
         let es = countedEntries b words in
-        let after = written words (map (issuedTo bidder) es) in
-        by-number (asked (Pay bidder amount)) (rules.effect b es (Pay bidder amount) l) (firstOf (registerRefusals b words ++ payRefusals b bidder amount)) (firstOf (rules.refusals b es (Pay bidder amount) l))
+        let after = entriesWritten words (map (issuedTo bidder) es) in
+        by-number (asked (Pay bidder amount)) (rules.effect b es (Pay bidder amount) l) (firstOf (registerRefusals b words ++ payRefusals b bidder amount))
+        (firstOf (rules.refusals b es (Pay bidder amount) l))
         (engineMade (asked (Pay bidder amount)) (engine.step b words (Pay bidder amount) l))
         (rows-same (payRefusals b bidder amount))
         (register-step (asked (Pay bidder amount)) b words (firstOf (registerRefusals b words ++ payRefusals b bidder amount)) (answered (bookPaid b bidder)) after (map (issuedTo bidder) es)
@@ -150,7 +169,7 @@ module _ (b : Book) (words : List ℕ) (long : registerWords ≤ length words) w
         (engineMade (asked (Default bidder)) (engine.step b words (Default bidder) l))
         (rows-same (defaultRefusals b bidder))
         (register-step (asked (Default bidder)) b words (firstOf (registerRefusals b words ++ defaultRefusals b bidder))
-        (drawn (drawOf (bidderOf b bidder)) (withEntries (bookForfeited b bidder) (length left))) (written words left) left (entries-read words left))
+        (drawn (drawOf (bidderOf b bidder)) (withEntries (bookForfeited b bidder) (length left))) (entriesWritten words left) left (entries-read words left))
 
     retire-same : (day : Day) → Same (Retire day)
     unfolding retire retireWords
@@ -161,7 +180,7 @@ module _ (b : Book) (words : List ℕ) (long : registerWords ≤ length words) w
         (engineMade (asked (Retire day)) (engine.step b words (Retire day) l))
         (rows-same (retireRefusals day))
         (register-step (asked (Retire day)) b words (firstOf (registerRefusals b words ++ retireRefusals day))
-        (answered (withEntries b (length left))) (written words left) left (entries-read words left))
+        (answered (withEntries b (length left))) (entriesWritten words left) left (entries-read words left))
 
     open-same : (kind : Kind) (period : Period) → Same (Open kind period)
     unfolding openings.«open»
@@ -173,7 +192,7 @@ module _ (b : Book) (words : List ℕ) (long : registerWords ≤ length words) w
         (engineMade (asked (Open kind period)) (engine.step b words (Open kind period) l))
         (ap (cond short 1) (rows-same own))
         (book-step (asked (Open kind period)) b words (firstOf (openings.openTable b words period (l .quantities)))
-        (answered (openings.opened b words kind period (l .quantities))) refl)
+        (answered (openings.bookOpened b words kind period (l .quantities))) refl)
 
     payout-same : (day : Day) (failed : Bool) → Same (Payout day failed)
     unfolding payouts.payout payouts.payoutAmounts
@@ -203,11 +222,11 @@ module _ (b : Book) (words : List ℕ) (long : registerWords ≤ length words) w
         by-number (asked Round) (rules.effect b es Round l) (firstOf table) (firstOf (rules.refusals b es Round l))
         (engineMade (asked Round) (engine.step b words Round l))
         (ap (λ (n : ℕ). cond first 1 (cond second 1 (cond third 1 n))) (rows-same own))
-        (round-step (asked Round) b words (firstOf table) (eqb (firstOf table) 0) (written words (es ++ rounds.entriesNow b bids)) (rules.clears b es l bids)
+        (round-step (asked Round) b words (firstOf table) (eqb (firstOf table) 0) (entriesWritten words (es ++ rounds.entriesNow b bids)) (rules.effectRound b es l bids)
         (more-read words (b .entries) (rounds.entriesNow b bids)) refl)
 
 -- the engine's step is the rules'
-pub step-same : (b : Book) (words : List ℕ) → State b words → (r : Request) → engineMade r (engineStep b words r) ≡ rulesStep b (countedEntries b words) r
+pub step-same : (b : Book) (words : List ℕ) → SoundState b words → (r : Request) → engineMade r (engineStep b words r) ≡ rulesStep b (countedEntries b words) r
 step-same b words state r = go (r .what) (r .lent)
   where
     go : (what : Call) (l : Lent) → engineMade (record { what = what; lent = l }) (engine.step b words what l) ≡ rulesStep b (countedEntries b words) (record { what = what; lent = l })

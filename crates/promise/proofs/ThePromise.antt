@@ -12,8 +12,8 @@ use Rattle.market.specs.declared.book.Book.{Book}
 use Rattle.market.specs.declared.book.Entry.{Entry}
 use Rattle.market.specs.declared.book.Route.{Route}
 use Rattle.register.specs.Refusals.{countedEntries}
-use Rattle.keeping.proofs.Start.{fresh-state, fresh-worth}
-use Rattle.keeping.specs.State.{State}
+use Rattle.promise_invariants.proofs.Start.{fresh-state, fresh-worth}
+use Rattle.promise_invariants.specs.State.{SoundState}
 use Rattle.engine.specs.Lent.{Lent}
 use Rattle.engine.specs.Step.{step}
 use Rattle.engine.specs.declared.calls.Call.{Call}
@@ -25,7 +25,10 @@ use Rattle.promise.proofs.RoundAnswers.{roundMade, no-rival-above, bids
 use Rattle.promise.proofs.RunLaws.{each-call, run-same, step-not-unsound, run-money}
 
 -- a fact of each answered round holds of each call that is an answered round
-of-rounds : (holds : Made → Type 0) → ((b : Book) (words : List ℕ) (l : Lent) → answerNumber (roundMade b words l .reply .answer) ≡ 0 → holds (roundMade b words l)) → (b : Book) (words : List ℕ) (r : Request) → IfRound holds (engineMade r (engineStep b words r))
+of-rounds :
+    (holds :
+    Made → Type 0) → ((b : Book) (words : List ℕ) (l : Lent) → answerNumber (roundMade b words l .reply .answer) ≡ 0 → holds (roundMade b words l)) → (b : Book) (words : List ℕ) (r : Request)
+    → IfRound holds (engineMade r (engineStep b words r))
 of-rounds holds fact b words r is =
     subst (λ (what : Call). answerNumber (made what .reply .answer) ≡ 0 → holds (made what)) (sym is) (fact b words (r .lent))
   where
@@ -36,7 +39,7 @@ module _ (routes : List Route) (paths : ℕ) (words : List ℕ) (calls : List Re
   abbrev start : Book
   start = freshBook routes paths
 
-  sound : State start words
+  sound : SoundState start words
   sound = fresh-state routes paths words answered long
 
   -- it counts no entry, so that no word of the register is read

@@ -7,11 +7,11 @@ use Prim.Native.Nat.{ℕ, _+_, _≤_, _<_}
 use lib.Dec.{eqb}
 use lib.ListN.{length, getD}
 use Rattle.market.specs.Answers.{answerNumber}
-use Rattle.bids.specs.Bids.{Bid, bidsOf}
-use Rattle.awards.specs.Awards.{Lot, lotsOf}
-use Rattle.awards.specs.Rivals.{Rival, Legal, rivalValue, filledValue, totalValue}
-use Rattle.awarding.specs.Tables.{below}
-use Rattle.round.specs.Answers.{markIn, wonIn, chargeIn, offeredIn}
+use Rattle.round_bids.specs.Bids.{Bid, bidsOf}
+use Rattle.round_award_rules.specs.Awards.{Claim, claimsOf}
+use Rattle.round_award_rules.specs.Rivals.{Rival, Legal, rivalValue, filledValue, totalValue}
+use Rattle.round_awards.specs.Tables.{below}
+use Rattle.call_round.specs.Answers.{markIn, wonIn, chargeIn, offeredIn}
 use Rattle.engine.specs.declared.calls.Call.the-variants.{Round}
 use Rattle.promise.specs.Runs.{Made}
 
@@ -21,8 +21,8 @@ abbrev pub bidsMade : Made → List Bid
 bidsMade m = bidsOf (m .request .lent .bids)
 
 -- the laminations of the bids that were admitted
-abbrev pub lotsMade : Made → List Lot
-lotsMade m = lotsOf (bidsMade m) (below (length (bidsMade m)) (markIn (m .reply .answers)))
+abbrev pub claimsMade : Made → List Claim
+claimsMade m = claimsOf (bidsMade m) (below (length (bidsMade m)) (markIn (m .reply .answers)))
 
 -- what the round offered of each path of the book
 abbrev pub offersMade : Made → List ℕ
@@ -30,13 +30,13 @@ offersMade m = below (m .book .«path_count») (offeredIn (m .reply .results))
 
 -- "A rival award gives each lamination (pair) of an admitted bid 0 up to its own MW, no path more in all than the round offers"
 abbrev pub RivalOf : Made → Rival → Type 0
-RivalOf m gives = Legal (offersMade m) (lotsMade m) gives
+RivalOf m gives = Legal (offersMade m) (claimsMade m) gives
 
 -- "in each answered round its total bid value is at least that of every rival award"; "the engine's fills a bid's laminations
 -- in order with its answered MW"
 abbrev pub NoRivalAbove : Made → Type 0
 NoRivalAbove m =
-    (gives : Rival) → RivalOf m gives → rivalValue gives (lotsMade m) ≤ totalValue (wonIn (m .reply .answers)) (bidsMade m)
+    (gives : Rival) → RivalOf m gives → rivalValue gives (claimsMade m) ≤ totalValue (wonIn (m .reply .answers)) (bidsMade m)
 
 -- "no bid is charged more than its bid value for what it won"
 abbrev pub BidsWithin : Made → Type 0

@@ -6,7 +6,7 @@ use mathlib.Core.List.{List, [], _∷_, _++_, map}
 use Prim.Native.Nat.{ℕ, zero, suc}
 use lib.ListN.{length, drop}
 use Rattle.market.specs.Answers.{Row, _gives_, firstOf, refused, answered, drawn}
-use Rattle.market.specs.Books.{bidderOf, withBidder, withAccount, withEntries, withAuction}
+use Rattle.market.specs.Books.{bidderOf, withBidder, withAccount, withEntries, withAuction, withFront}
 use Rattle.market.specs.Limits.{bidderLimit}
 use Rattle.market.specs.Sound.{soundBook}
 use Rattle.market.specs.declared.answer.Answer.the-variants.{Bids}
@@ -17,24 +17,24 @@ use Rattle.market.specs.declared.book.Stage.the-variants as stages
 use Rattle.register.specs.Entries.{issuedTo, without}
 use Rattle.register.specs.Refusals.{soundEntries}
 use Rattle.register.specs.declared.Removal.the-variants.{PendingOf, EndedBefore}
-use Rattle.funding.specs.Deposit.{depositRefusals, credited}
-use Rattle.funding.specs.Withdraw.{withdrawRefusals, debited}
-use Rattle.rent.specs.Rent.{rentRefusals, accountAfter}
-use Rattle.billing.specs.Pay.{payRefusals, bookPaid}
-use Rattle.defaulting.specs.Default.{defaultRefusals, drawOf, bookForfeited}
-use Rattle.retire.specs.Retire.{retireRefusals}
-use Rattle.payout.specs.Payout as payouts
-use Rattle.pools.specs.Pools.{sharesOf}
-use Rattle.disbursement.specs.Disbursement as pools
-use Rattle.disbursement.specs.declared.flow.Flow.the-variants.{Out, In}
-use Rattle.opened_paths.specs.OpenedPaths.{openedPaths}
-use Rattle.opening.specs.Open as openings
-use Rattle.bids.specs.Bids.{Bid, bidsOf}
-use Rattle.bids.specs.Faults.{listRefusals}
-use Rattle.clearing.specs.Clearing.{bidRows, laid}
-use Rattle.closing.specs.Closing.{pathRows}
-use Rattle.round.specs.Round as rounds
-use Rattle.engine.specs.Lent.{Lent, columnsOf}
+use Rattle.call_funding.specs.Deposit.{depositRefusals, withDeposit}
+use Rattle.call_funding.specs.Withdraw.{withdrawRefusals, debited}
+use Rattle.call_rent.specs.Rent.{rentRefusals, accountWithRent}
+use Rattle.call_pay.specs.Pay.{payRefusals, bookPaid}
+use Rattle.call_default.specs.Default.{defaultRefusals, drawOf, bookForfeited}
+use Rattle.call_retire.specs.Retire.{retireRefusals}
+use Rattle.call_payout.specs.Payout as payouts
+use Rattle.pool_columns.specs.Pools.{sharesOf}
+use Rattle.call_disburse.specs.Disbursement as pools
+use Rattle.call_disburse.specs.declared.flow.Flow.the-variants.{Out, In}
+use Rattle.call_open.specs.OpenedPaths.{openedPaths}
+use Rattle.call_open.specs.Open as openings
+use Rattle.round_bids.specs.Bids.{Bid, bidsOf}
+use Rattle.round_bids.specs.BidRefusals.{listRefusals}
+use Rattle.round_charges.specs.Charges.{bidRows}
+use Rattle.round_paths.specs.PathRows.{pathRows}
+use Rattle.call_round.specs.Round as rounds
+use Rattle.engine.specs.Lent.{Lent, poolListsOf}
 use Rattle.engine.specs.declared.calls.Call.{Call}
 use Rattle.engine.specs.declared.calls.Call.the-variants.{Deposit, Withdraw, Open, Round, Pay, Default, Retire, Rent, Payout, Disburse, Recover}
 
@@ -49,9 +49,9 @@ abbrev pub refusals : Book → List Entry → Call → Lent → List Row
 refusals b es (Deposit bidder to amount) l = depositRefusals b bidder to amount
 refusals b es (Withdraw bidder from amount) l = withdrawRefusals b bidder from amount
 refusals b es (Open kind period) l =
-    openings.lentRefusals b (l .quantities) ++ unsound b es ++ openings.openRefusals b period (l .quantities)
+    openings.quantityListRefusals b (l .quantities) ++ unsound b es ++ openings.openRefusals b period (l .quantities)
 refusals b es Round l =
-    rounds.lentRefusals (l .answers) (l .results) (l .scratch)
+    rounds.roundListRefusals (l .answers) (l .results) (l .scratch)
     ++ unsound b es
     ++ rounds.deskRefusals b (l .bids)
     ++ listRefusals (b .«path_count») (l .bids)
@@ -61,12 +61,12 @@ refusals b es (Default bidder) l = unsound b es ++ defaultRefusals b bidder
 refusals b es (Retire day) l = unsound b es ++ retireRefusals day
 refusals b es (Rent amount) l = rentRefusals b amount
 refusals b es (Payout day failed) l =
-    payouts.lentRefusals (l .prices) (l .amounts)
+    payouts.payoutListRefusals (l .prices) (l .amounts)
     ++ unsound b es
     ++ payouts.hourRefusals day failed (l .prices)
     ++ payouts.accountRefusals b es day failed (l .prices)
-refusals b es (Disburse total) l = pools.refusals Out b total (columnsOf l)
-refusals b es (Recover total) l = pools.refusals In b total (columnsOf l)
+refusals b es (Disburse total) l = pools.flowRefusals Out b total (poolListsOf l)
+refusals b es (Recover total) l = pools.flowRefusals In b total (poolListsOf l)
 
 -- ---- What an answered call does
 
@@ -79,12 +79,12 @@ pub record Effect : Type 0 where
   pub results : List ℕ
 
 -- a call that writes to no list, and one that writes to the list of 32 amounts
-abbrev pub leaves : Lent → Outcome → List Entry → Effect
-leaves l outcome es =
+abbrev pub effectPlain : Lent → Outcome → List Entry → Effect
+effectPlain l outcome es =
     record { outcome = outcome; entries = es; amounts = l .amounts; answers = l .answers; results = l .results }
 
-abbrev pub shares : Lent → Outcome → List Entry → List ℕ → Effect
-shares l outcome es amounts =
+abbrev pub effectSharing : Lent → Outcome → List Entry → List ℕ → Effect
+effectSharing l outcome es amounts =
     record {
       outcome = outcome;
       entries = es;
@@ -94,63 +94,64 @@ shares l outcome es amounts =
     }
 
 -- a round with these bids
-abbrev pub clears : Book → List Entry → Lent → List Bid → Effect
-clears b es l bids =
+abbrev pub effectRound : Book → List Entry → Lent → List Bid → Effect
+effectRound b es l bids =
     record {
       outcome = record { answer = Bids (length bids); book = rounds.bookAfter b bids };
       entries = es ++ rounds.entriesNow b bids;
       amounts = l .amounts;
       answers =
-          laid (l .answers)
-          (bidRows (rounds.marksNow b bids) (rounds.wonNow b bids) (rounds.pricesNow b bids) bids);
+          withFront (bidRows (rounds.marksNow b bids) (rounds.wonNow b bids) (rounds.pricesNow b bids) bids)
+          (l .answers);
       results =
-          laid (l .results)
-          (pathRows (rounds.offeredNow b) (rounds.soldNow b bids) (rounds.pricesNow b bids) (b .«path_count»));
+          withFront
+          (pathRows (rounds.offeredNow b) (rounds.soldNow b bids) (rounds.pricesNow b bids) (b .«path_count»))
+          (l .results);
     }
 
 abbrev pub effect : Book → List Entry → Call → Lent → Effect
 effect b es (Deposit bidder to amount) l =
-    leaves l (answered (withBidder b bidder (credited (bidderOf b bidder) to amount))) es
+    effectPlain l (answered (withBidder b bidder (withDeposit (bidderOf b bidder) to amount))) es
 effect b es (Withdraw bidder from amount) l =
-    leaves l (answered (withBidder b bidder (debited (bidderOf b bidder) from amount))) es
+    effectPlain l (answered (withBidder b bidder (debited (bidderOf b bidder) from amount))) es
 effect b es (Open kind period) l =
-    leaves l
+    effectPlain l
     (answered
     (withAuction b
     (openedPaths kind period es (l .quantities) (b .paths) (b .«path_count»))
     (stages.Open kind 1 period)))
     es
-effect b es Round l = clears b es l (bidsOf (l .bids))
-effect b es (Pay bidder amount) l = leaves l (answered (bookPaid b bidder)) (map (issuedTo bidder) es)
+effect b es Round l = effectRound b es l (bidsOf (l .bids))
+effect b es (Pay bidder amount) l = effectPlain l (answered (bookPaid b bidder)) (map (issuedTo bidder) es)
 effect b es (Default bidder) l =
-    leaves l
+    effectPlain l
     (drawn (drawOf (bidderOf b bidder)) (withEntries (bookForfeited b bidder) (length (without (PendingOf bidder) es))))
     (without (PendingOf bidder) es)
 effect b es (Retire day) l =
-    leaves l (answered (withEntries b (length (without (EndedBefore day) es)))) (without (EndedBefore day) es)
-effect b es (Rent amount) l = leaves l (answered (withAccount b (accountAfter b amount))) es
+    effectPlain l (answered (withEntries b (length (without (EndedBefore day) es)))) (without (EndedBefore day) es)
+effect b es (Rent amount) l = effectPlain l (answered (withAccount b (accountWithRent b amount))) es
 effect b es (Payout day failed) l =
-    shares l
+    effectSharing l
     (answered (withAccount b (payouts.accountPaying b day failed (l .prices) es)))
     es
     (payouts.amountsOf b day failed (l .prices) es)
 effect b es (Disburse total) l =
-    shares l
-    (answered (withAccount b (pools.accountAfter Out b total)))
+    effectSharing l
+    (answered (withAccount b (pools.accountAfterFlow Out b total)))
     es
-    (sharesOf (total .0) (pools.columnsOf (columnsOf l)))
+    (sharesOf (total .0) (pools.columnsOf (poolListsOf l)))
 effect b es (Recover total) l =
-    shares l
-    (answered (withAccount b (pools.accountAfter In b total)))
+    effectSharing l
+    (answered (withAccount b (pools.accountAfterFlow In b total)))
     es
-    (sharesOf (total .0) (pools.columnsOf (columnsOf l)))
+    (sharesOf (total .0) (pools.columnsOf (poolListsOf l)))
 
 -- ---- A call, refused or answered
 
 -- "A refusal returns its number; nothing lent or held differs afterwards."
 abbrev pub decidedEffect : Book → List Entry → Lent → ℕ → Effect → Effect
 decidedEffect b es l zero taken = taken
-decidedEffect b es l (suc n) taken = leaves l (refused b (suc n)) es
+decidedEffect b es l (suc n) taken = effectPlain l (refused b (suc n)) es
 
 abbrev pub ruled : Book → List Entry → Call → Lent → Effect
 ruled b es what l = decidedEffect b es l (firstOf (refusals b es what l)) (effect b es what l)

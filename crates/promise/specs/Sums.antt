@@ -6,8 +6,8 @@ use Prim.Native.Nat.{ℕ, _+_}
 use lib.ListN.{take}
 use Rattle.market.specs.Limits.{bidderLimit}
 use Rattle.market.specs.declared.book.Book.{Book}
-use Rattle.sharing.specs.Sharing.{total}
-use Rattle.keeping.specs.Money.{ifAnswered, drawIn, cashOf}
+use Rattle.pool_sharing.specs.Sharing.{total}
+use Rattle.promise_invariants.specs.Money.{ifAnswered, drawIn, cashOf}
 use Rattle.engine.specs.declared.calls.Call.{Call}
 use Rattle.engine.specs.declared.calls.Call.the-variants.{Deposit, Withdraw, Open, Round, Pay, Default, Retire, Rent, Payout, Disburse, Recover}
 use Rattle.promise.specs.Runs.{Reply, Made}

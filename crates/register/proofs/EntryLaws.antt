@@ -17,7 +17,7 @@ use Rattle.market.specs.Sound.{soundPeriod}
 use Rattle.market.specs.declared.book.Entry.{Entry}
 use Rattle.register.proofs.WordLaws.{put-appends, entry-past, entries-length, entries-at, length-snoc}
 use Rattle.register.specs.Entries.{soundEntry, goes, without}
-use Rattle.register.specs.Words.{entryAt, entriesOf, putAt, written}
+use Rattle.register.specs.Words.{entryAt, entriesOf, entryPut, entriesWritten}
 use Rattle.register.specs.declared.Removal.{Removal}
 
 -- counting one more entry
@@ -25,8 +25,8 @@ pub entries-more : (words : List ℕ) (i : ℕ) → entriesOf words (i + 1) ≡ 
 entries-more words i = rw add-one
 
 -- an entry put after the `k` entries that are written is appended to them
-pub put-next : (words : List ℕ) (es : List Entry) (k : ℕ) (e : Entry) → length es ≡ k → putAt (written words es) k e ≡ written words (es ++ (e ∷ []))
-put-next words es k e h = ap (λ (n : ℕ). putAt (written words es) n e) (sym h) ∙ put-appends words es e
+pub put-next : (words : List ℕ) (es : List Entry) (k : ℕ) (e : Entry) → length es ≡ k → entryPut (entriesWritten words es) k e ≡ entriesWritten words (es ++ (e ∷ []))
+put-next words es k e h = ap (λ (n : ℕ). entryPut (entriesWritten words es) n e) (sym h) ∙ put-appends words es e
 
 -- ---- entries changed one by one
 
@@ -35,15 +35,18 @@ module _ (f : Entry → Entry) (words₀ : List ℕ) (i : ℕ) where
   changed-length = length-map (entriesOf words₀ i) f ∙ entries-length words₀ i
 
   -- the entry at the next place is read, changed and put back there
-  pub change-next : (words : List ℕ) (e : Entry) → words ≡ written words₀ (map f (entriesOf words₀ i)) → e ≡ f (entryAt words i) → putAt words i e ≡ written words₀ (map f (entriesOf words₀ (i + 1)))
+  pub change-next :
+      (words :
+      List ℕ) (e : Entry) → words ≡ entriesWritten words₀ (map f (entriesOf words₀ i)) → e ≡ f (entryAt words i)
+      → entryPut words i e ≡ entriesWritten words₀ (map f (entriesOf words₀ (i + 1)))
   change-next words e now is =
       let es = entriesOf words₀ i in
       let past : entryAt words i ≡ entryAt words₀ i =
       ap (λ (w : List ℕ). entryAt w i) now ∙ entry-past words₀ (map f es) i (omega (arith, changed-length))
       in
-      ap₂ (λ (w : List ℕ) (x : Entry). putAt w i x) now (is ∙ ap f past)
+      ap₂ (λ (w : List ℕ) (x : Entry). entryPut w i x) now (is ∙ ap f past)
       ∙ put-next words₀ (map f es) i (f (entryAt words₀ i)) changed-length
-      ∙ ap (written words₀) (sym (map-snoc f es (entryAt words₀ i)) ∙ ap (map f) (sym (entries-more words₀ i)))
+      ∙ ap (entriesWritten words₀) (sym (map-snoc f es (entryAt words₀ i)) ∙ ap (map f) (sym (entries-more words₀ i)))
 
 -- ---- entries removed
 
@@ -51,7 +54,9 @@ pub without-snoc : (what : Removal) (es : List Entry) (e : Entry) → without wh
 without-snoc what [] e = refl
 without-snoc what (x ∷ es) e = go (goes what x) (goes what e) (without-snoc what es e)
   where
-    go : (s t : Bool) {r : List Entry} → r ≡ cond t (without what es) (without what es ++ (e ∷ [])) → cond s r (x ∷ r) ≡ cond t (cond s (without what es) (x ∷ without what es)) (cond s (without what es) (x ∷ without what es) ++ (e ∷ []))
+    go :
+        (s t : Bool) {r : List Entry} → r ≡ cond t (without what es) (without what es ++ (e ∷ []))
+        → cond s r (x ∷ r) ≡ cond t (cond s (without what es) (x ∷ without what es)) (cond s (without what es) (x ∷ without what es) ++ (e ∷ []))
     go true true h = h
     go true false h = h
     go false true h = ap (x ∷_) h
@@ -66,39 +71,40 @@ without-length what (x ∷ es) = go (goes what x) (without-length what es)
     go false h = omega arith
 
 -- one turn looks at the entry at `i`, where `kept` of the entries before it have stayed
-module _ (what : Removal) (words₀ words : List ℕ) (i kept : ℕ) (now : words ≡ written words₀ (without what (entriesOf words₀ i))) (long : kept ≡ length (without what (entriesOf words₀ i))) where
-  pub kept-within : kept ≤ i
-  kept-within = omega (arith, without-length what (entriesOf words₀ i), entries-length words₀ i)
+module _ (what : Removal) (words₀ words : List ℕ) (i kept : ℕ) (now : words ≡ entriesWritten words₀ (without what (entriesOf words₀ i))) (long : kept ≡ length (without what (entriesOf words₀ i)))
+  where
+    pub kept-within : kept ≤ i
+    kept-within = omega (arith, without-length what (entriesOf words₀ i), entries-length words₀ i)
 
-  -- the next entry, read after what has been written, is the one that was there at the start
-  next-entry : entryAt words i ≡ entryAt words₀ i
-  next-entry = ap (λ (w : List ℕ). entryAt w i) now ∙ entry-past words₀ (without what (entriesOf words₀ i)) i (omega (arith, kept-within))
+    -- the next entry, read after what has been written, is the one that was there at the start
+    next-entry : entryAt words i ≡ entryAt words₀ i
+    next-entry = ap (λ (w : List ℕ). entryAt w i) now ∙ entry-past words₀ (without what (entriesOf words₀ i)) i (omega (arith, kept-within))
 
-  next-without : without what (entriesOf words₀ (i + 1)) ≡ cond (goes what (entryAt words i)) (without what (entriesOf words₀ i)) (without what (entriesOf words₀ i) ++ (entryAt words i ∷ []))
-  next-without =
-      ap (without what) (entries-more words₀ i)
-      ∙ without-snoc what (entriesOf words₀ i) (entryAt words₀ i)
-      ∙ ap (λ (e : Entry). cond (goes what e) (without what (entriesOf words₀ i)) (without what (entriesOf words₀ i) ++ (e ∷ []))) (sym next-entry)
+    next-without : without what (entriesOf words₀ (i + 1)) ≡ cond (goes what (entryAt words i)) (without what (entriesOf words₀ i)) (without what (entriesOf words₀ i) ++ (entryAt words i ∷ []))
+    next-without =
+        ap (without what) (entries-more words₀ i)
+        ∙ without-snoc what (entriesOf words₀ i) (entryAt words₀ i)
+        ∙ ap (λ (e : Entry). cond (goes what e) (without what (entriesOf words₀ i)) (without what (entriesOf words₀ i) ++ (e ∷ []))) (sym next-entry)
 
-  pub kept-count : cond (goes what (entryAt words i)) kept (kept + 1) ≡ length (without what (entriesOf words₀ (i + 1)))
-  kept-count = go (goes what (entryAt words i)) ∙ ap length (sym next-without)
-    where
-      es : List Entry
-      es = without what (entriesOf words₀ i)
+    pub kept-count : cond (goes what (entryAt words i)) kept (kept + 1) ≡ length (without what (entriesOf words₀ (i + 1)))
+    kept-count = go (goes what (entryAt words i)) ∙ ap length (sym next-without)
+      where
+        es : List Entry
+        es = without what (entriesOf words₀ i)
 
-      go : (t : Bool) → cond t kept (kept + 1) ≡ length (cond t es (es ++ (entryAt words i ∷ [])))
-      go true = long
-      go false = ap (λ (n : ℕ). n + 1) long ∙ sym (length-snoc es (entryAt words i))
+        go : (t : Bool) → cond t kept (kept + 1) ≡ length (cond t es (es ++ (entryAt words i ∷ [])))
+        go true = long
+        go false = ap (λ (n : ℕ). n + 1) long ∙ sym (length-snoc es (entryAt words i))
 
-  pub kept-words : cond (goes what (entryAt words i)) words (putAt words kept (entryAt words i)) ≡ written words₀ (without what (entriesOf words₀ (i + 1)))
-  kept-words = go (goes what (entryAt words i)) ∙ ap (written words₀) (sym next-without)
-    where
-      es : List Entry
-      es = without what (entriesOf words₀ i)
+    pub kept-words : cond (goes what (entryAt words i)) words (entryPut words kept (entryAt words i)) ≡ entriesWritten words₀ (without what (entriesOf words₀ (i + 1)))
+    kept-words = go (goes what (entryAt words i)) ∙ ap (entriesWritten words₀) (sym next-without)
+      where
+        es : List Entry
+        es = without what (entriesOf words₀ i)
 
-      go : (t : Bool) → cond t words (putAt words kept (entryAt words i)) ≡ written words₀ (cond t es (es ++ (entryAt words i ∷ [])))
-      go true = now
-      go false = ap (λ (w : List ℕ). putAt w kept (entryAt words i)) now ∙ put-next words₀ es kept (entryAt words i) (sym long)
+        go : (t : Bool) → cond t words (entryPut words kept (entryAt words i)) ≡ entriesWritten words₀ (cond t es (es ++ (entryAt words i ∷ [])))
+        go true = now
+        go false = ap (λ (w : List ℕ). entryPut w kept (entryAt words i)) now ∙ put-next words₀ es kept (entryAt words i) (sym long)
 
 -- the bounds of a sound entry
 pub record EntryBounds (paths : ℕ) (e : Entry) : Type 0 where

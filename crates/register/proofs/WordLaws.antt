@@ -13,10 +13,13 @@ use native.Mathlib.Nat.{le-antisymm, le-refl, zero-add, add-zero}
 use Rattle.market.specs.Books.{megawatts, dayNumber}
 use Rattle.market.specs.Limits.{entryWords}
 use Rattle.market.specs.declared.book.Entry.{Entry}
-use Rattle.register.specs.Words.{entryAt, entriesOf, wordsOf, putAt, allWords, written}
+use Rattle.register.specs.Words.{entryAt, entriesOf, encodedEntry, entryPut, allWords, entriesWritten}
 
 -- six stores in a row
-pub six-stores : (l : List ℕ) (at a b c d e f : ℕ) → at + 6 ≤ length l → set (set (set (set (set (set l at a) (at + 1) b) (at + 2) c) (at + 3) d) (at + 4) e) (at + 5) f ≡ take at l ++ (a ∷ b ∷ c ∷ d ∷ e ∷ f ∷ []) ++ drop (at + 6) l
+pub six-stores :
+    (l :
+    List ℕ) (at a b c d e f : ℕ) → at + 6 ≤ length l
+    → set (set (set (set (set (set l at a) (at + 1) b) (at + 2) c) (at + 3) d) (at + 4) e) (at + 5) f ≡ take at l ++ (a ∷ b ∷ c ∷ d ∷ e ∷ f ∷ []) ++ drop (at + 6) l
 six-stores l at a b c d e f h =
     rw (add-one at, add-two at, add-three at, add-four at, add-five at) (sets-eq (a ∷ b ∷ c ∷ d ∷ e ∷ f ∷ []) l at h)
 
@@ -25,33 +28,33 @@ pub all-words-length : (es : List Entry) → length (allWords es) ≡ length es 
 all-words-length [] = refl
 all-words-length (e ∷ es) = omega (arith, all-words-length es)
 
-pub all-words-snoc : (es : List Entry) (e : Entry) → allWords (es ++ (e ∷ [])) ≡ allWords es ++ wordsOf e
+pub all-words-snoc : (es : List Entry) (e : Entry) → allWords (es ++ (e ∷ [])) ≡ allWords es ++ encodedEntry e
 all-words-snoc [] e = refl
-all-words-snoc (x ∷ es) e = ap (wordsOf x ++_) (all-words-snoc es e)
+all-words-snoc (x ∷ es) e = ap (encodedEntry x ++_) (all-words-snoc es e)
 
 pub length-snoc : {A : Type 0} (l : List A) (a : A) → length (l ++ (a ∷ [])) ≡ length l + 1
 length-snoc l a = length-append l (a ∷ [])
 
 module _ (words : List ℕ) (es : List Entry) where
   -- writing entries does not change the number of words
-  pub written-length : length es * entryWords ≤ length words → length (written words es) ≡ length words
+  pub written-length : length es * entryWords ≤ length words → length (entriesWritten words es) ≡ length words
   written-length h =
       length-append (allWords es) (drop (length es * entryWords) words)
       ∙ omega (arith, all-words-length es, length-drop (length es * entryWords) words)
 
   -- the places after what is written are as they were
-  pub past-written : (k : ℕ) → length es * entryWords ≤ k → getD (written words es) k 0 ≡ getD words k 0
+  pub past-written : (k : ℕ) → length es * entryWords ≤ k → getD (entriesWritten words es) k 0 ≡ getD words k 0
   past-written k h =
       let n = length (allWords es) in
       let same : n ≡ length es * entryWords = all-words-length es in
       let there : k ≡ n + (k - n) = omega arith in
-      ap (λ (j : ℕ). getD (written words es) j 0) there
+      ap (λ (j : ℕ). getD (entriesWritten words es) j 0) there
       ∙ getD-append-add (allWords es) (drop (length es * entryWords) words) (k - n) 0
       ∙ getD-drop (length es * entryWords) words (k - n) 0
       ∙ ap (λ (j : ℕ). getD words j 0) (let e : length es * entryWords + (k - n) ≡ k = omega arith in e)
 
   -- so the entry at such a place is as it was
-  pub entry-past : (i : ℕ) → length es ≤ i → entryAt (written words es) i ≡ entryAt words i
+  pub entry-past : (i : ℕ) → length es ≤ i → entryAt (entriesWritten words es) i ≡ entryAt words i
   entry-past i h =
       let at = i * entryWords in
       λ j. record {
@@ -67,22 +70,22 @@ module _ (words : List ℕ) (es : List Entry) where
       }
 
   -- an entry put at the end of what is written is appended to it
-  pub put-appends : (e : Entry) → putAt (written words es) (length es) e ≡ written words (es ++ (e ∷ []))
+  pub put-appends : (e : Entry) → entryPut (entriesWritten words es) (length es) e ≡ entriesWritten words (es ++ (e ∷ []))
   put-appends e =
       let n = length es * entryWords in
       let rest = drop n words in
-      let front : take n (written words es) ≡ allWords es = take-at (allWords es) rest n (all-words-length es) in
-      let back : drop (n + entryWords) (written words es) ≡ drop (n + entryWords) words =
-      ap (λ (k : ℕ). drop (k + entryWords) (written words es)) (sym (all-words-length es))
+      let front : take n (entriesWritten words es) ≡ allWords es = take-at (allWords es) rest n (all-words-length es) in
+      let back : drop (n + entryWords) (entriesWritten words es) ≡ drop (n + entryWords) words =
+      ap (λ (k : ℕ). drop (k + entryWords) (entriesWritten words es)) (sym (all-words-length es))
       ∙ drop-append-add (allWords es) rest entryWords
       ∙ drop-drop entryWords n words
       in
-      ap₂ (λ (a b : List ℕ). a ++ wordsOf e ++ b) front back
+      ap₂ (λ (a b : List ℕ). a ++ encodedEntry e ++ b) front back
       ∙ ap₂ (λ (a : List ℕ) (k : ℕ). a ++ drop k words) (sym (all-words-snoc es e))
       (let same : n + entryWords ≡ length (es ++ (e ∷ [])) * entryWords = omega (arith, length-snoc es e) in same)
 
 -- writing no entry leaves the words as they were
-pub nothing-written : (words : List ℕ) → written words [] ≡ words
+pub nothing-written : (words : List ℕ) → entriesWritten words [] ≡ words
 nothing-written words = refl
 
 -- the counted entries: how many they are, and which one is at each place
@@ -108,7 +111,7 @@ entries-at words (suc n) i d h =
     snoc-at (entriesOf words n) (entryAt words n) d (entryAt words) n i (entries-length words n) refl (entries-at words n i d) (decLt i n) h
 
 -- putting an entry back where it was read changes nothing
-put-back : (words : List ℕ) (i : ℕ) → (i + 1) * entryWords ≤ length words → putAt words i (entryAt words i) ≡ words
+put-back : (words : List ℕ) (i : ℕ) → (i + 1) * entryWords ≤ length words → entryPut words i (entryAt words i) ≡ words
 put-back words i h =
     let at = i * entryWords in
     sym
@@ -116,32 +119,32 @@ put-back words i h =
     ∙ simp set-getD
 
 -- writing back the entries that were read changes nothing
-pub written-back : (words : List ℕ) (n : ℕ) → n * entryWords ≤ length words → written words (entriesOf words n) ≡ words
+pub written-back : (words : List ℕ) (n : ℕ) → n * entryWords ≤ length words → entriesWritten words (entriesOf words n) ≡ words
 written-back words zero h = refl
 written-back words (suc n) h =
     let es = entriesOf words n in
     sym (put-appends words es (entryAt words n))
-    ∙ ap₂ (λ (w : List ℕ) (k : ℕ). putAt w k (entryAt words n)) (written-back words n (omega arith)) (entries-length words n)
+    ∙ ap₂ (λ (w : List ℕ) (k : ℕ). entryPut w k (entryAt words n)) (written-back words n (omega arith)) (entries-length words n)
     ∙ put-back words n (omega arith)
 
 -- where the words of an entry are
-words-at : (es : List Entry) (rest : List ℕ) (i k : ℕ) (d : Entry) → k < entryWords → i < length es → getD (allWords es ++ rest) (i * entryWords + k) 0 ≡ getD (wordsOf (getD es i d)) k 0
+words-at : (es : List Entry) (rest : List ℕ) (i k : ℕ) (d : Entry) → k < entryWords → i < length es → getD (allWords es ++ rest) (i * entryWords + k) 0 ≡ getD (encodedEntry (getD es i d)) k 0
 words-at [] rest i k d p h = absurd (let no-place : ⊥ = omega arith in no-place)
 words-at (e ∷ es) rest zero k d p h =
-    ap (λ (m : ℕ). getD (wordsOf e ++ (allWords es ++ rest)) m 0) (zero-add k)
-    ∙ List·getD-append (wordsOf e) (allWords es ++ rest) 0 k p
+    ap (λ (m : ℕ). getD (encodedEntry e ++ (allWords es ++ rest)) m 0) (zero-add k)
+    ∙ List·getD-append (encodedEntry e) (allWords es ++ rest) 0 k p
 words-at (e ∷ es) rest (suc i) k d p h =
     let there : suc i * entryWords + k ≡ entryWords + (i * entryWords + k) = omega arith in
-    ap (λ (m : ℕ). getD (wordsOf e ++ (allWords es ++ rest)) m 0) there
-    ∙ getD-append-add (wordsOf e) (allWords es ++ rest) (i * entryWords + k) 0
+    ap (λ (m : ℕ). getD (encodedEntry e ++ (allWords es ++ rest)) m 0) there
+    ∙ getD-append-add (encodedEntry e) (allWords es ++ rest) (i * entryWords + k) 0
     ∙ words-at es rest i k d p (omega arith)
 
 -- the entry read at a place of what is written is the one written there
-pub entry-within : (words : List ℕ) (es : List Entry) (i : ℕ) (d : Entry) → i < length es → entryAt (written words es) i ≡ getD es i d
+pub entry-within : (words : List ℕ) (es : List Entry) (i : ℕ) (d : Entry) → i < length es → entryAt (entriesWritten words es) i ≡ getD es i d
 entry-within words es i d h =
     let rest = drop (length es * entryWords) words in
-    let first : getD (written words es) (i * entryWords) 0 ≡ getD es i d .bidder =
-    ap (λ (m : ℕ). getD (written words es) m 0) (sym (add-zero (i * entryWords))) ∙ words-at es rest i 0 d (lit< tt) h
+    let first : getD (entriesWritten words es) (i * entryWords) 0 ≡ getD es i d .bidder =
+    ap (λ (m : ℕ). getD (entriesWritten words es) m 0) (sym (add-zero (i * entryWords))) ∙ words-at es rest i 0 d (lit< tt) h
     in
     λ j. record {
       bidder = first j;
@@ -156,11 +159,11 @@ entry-within words es i d h =
     }
 
 -- the entries that are read are those that were written
-first-read : (words : List ℕ) (es : List Entry) (n : ℕ) (d : Entry) → n ≤ length es → entriesOf (written words es) n ≡ take n es
+first-read : (words : List ℕ) (es : List Entry) (n : ℕ) (d : Entry) → n ≤ length es → entriesOf (entriesWritten words es) n ≡ take n es
 first-read words es zero d h = refl
 first-read words es (suc n) d h =
     ap₂ (λ (l : List Entry) (e : Entry). l ++ (e ∷ [])) (first-read words es n d (omega arith)) (entry-within words es n d h)
     ∙ sym (take-suc es n d h)
 
-pub entries-read : (words : List ℕ) (es : List Entry) → entriesOf (written words es) (length es) ≡ es
+pub entries-read : (words : List ℕ) (es : List Entry) → entriesOf (entriesWritten words es) (length es) ≡ es
 entries-read words es = first-read words es (length es) (entryAt words 0) (le-refl (length es)) ∙ take-length es

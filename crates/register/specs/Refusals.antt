@@ -1,13 +1,14 @@
 -- The refusals that every call that is lent the register has before its own: "1 a lent buffer shorter than stated; 2 a book or a
 -- counted register entry that is not sound".
-use mathlib.Core.Bool.{Bool, not, _&&_}
+use mathlib.Core.Path.{_≡_}
+use mathlib.Core.Bool.{Bool, true, not, _&&_}
 use mathlib.Core.List.{List, [], _∷_}
-use Prim.Native.Nat.{ℕ}
+use Prim.Native.Nat.{ℕ, _*_, _≤_}
 use lib.Dec.{ltb}
 use lib.ListN.{length}
 use Rattle.market.specs.Answers.{Row, _gives_}
 use Rattle.market.specs.Books.{every}
-use Rattle.market.specs.Limits.{registerWords}
+use Rattle.market.specs.Limits.{entryLimit, entryWords, registerWords}
 use Rattle.market.specs.Sound.{soundBook}
 use Rattle.market.specs.declared.book.Book.{Book}
 use Rattle.market.specs.declared.book.Entry.{Entry}
@@ -27,3 +28,11 @@ registerRefusals b words =
     (ltb (length words) registerWords gives 1)
     ∷ (not (soundBook b && soundEntries b (countedEntries b words)) gives 2)
     ∷ []
+
+-- what holds of a book and of the register lent with it where neither is refused
+pub record LentRegister (b : Book) (words : List ℕ) : Type 0 where
+  pub long : registerWords ≤ length words
+  pub sound : soundBook b ≡ true
+  pub entries : soundEntries b (countedEntries b words) ≡ true
+  pub count : b .entries ≤ entryLimit
+  pub room : b .entries * entryWords ≤ length words

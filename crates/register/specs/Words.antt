@@ -28,18 +28,18 @@ entriesOf words zero = []
 entriesOf words (suc n) = entriesOf words n ++ (entryAt words n ∷ [])
 
 -- the six words of an entry, and the words of a list of entries
-abbrev pub wordsOf : Entry → List ℕ
-wordsOf e =
+abbrev pub encodedEntry : Entry → List ℕ
+encodedEntry e =
     e .bidder ∷ e .path ∷ e .quantity .0 ∷ e .period .first .0 ∷ e .period .last .0 ∷ e .state ∷ []
 
 abbrev pub allWords : List Entry → List ℕ
 allWords [] = []
-allWords (e ∷ es) = wordsOf e ++ allWords es
+allWords (e ∷ es) = encodedEntry e ++ allWords es
 
 -- the words after an entry is put at a place
-abbrev pub putAt : List ℕ → ℕ → Entry → List ℕ
-putAt words i e = take (i * entryWords) words ++ wordsOf e ++ drop (i * entryWords + entryWords) words
+abbrev pub entryPut : List ℕ → ℕ → Entry → List ℕ
+entryPut words i e = take (i * entryWords) words ++ encodedEntry e ++ drop (i * entryWords + entryWords) words
 
 -- the words after entries are written from the front: every word after the entries is as it was
-abbrev pub written : List ℕ → List Entry → List ℕ
-written words es = allWords es ++ drop (length es * entryWords) words
+abbrev pub entriesWritten : List ℕ → List Entry → List ℕ
+entriesWritten words es = allWords es ++ drop (length es * entryWords) words

@@ -9,7 +9,7 @@ ghost use mathlib.Core.List.{_++_, _∷_, []};
 ghost use Prim.Native.Nat.{_+_, _*_, _≤_};
 ghost use lib.ListN.{length};
 ghost use Rattle.market.specs.Limits.{entryWords};
-ghost use Rattle.register.specs.Words.{entryAt, entriesOf, putAt, written};
+ghost use Rattle.register.specs.Words.{entryAt, entriesOf, entryPut, entriesWritten};
 
 // Which entries are to be removed: a bidder's pending ones, or issued ones that ended before a day.
 pub enum Removal {
@@ -38,7 +38,7 @@ pub fn read(words: &[u32], i: usize) -> Entry
 // Puts an entry at a place.
 pub fn put(words: &mut [u32], i: usize, entry: Entry)
     requires { ⌜ (i + 1) * entryWords ≤ length (now words) ⌝ }
-    ensures { λ r. ⌜ now (words .exit) ≡ putAt (now (words .entry)) i entry ⌝ }
+    ensures { λ r. ⌜ now (words .exit) ≡ entryPut (now (words .entry)) i entry ⌝ }
 {
     let at = i * Engine::ENTRY_WORDS;
     let quantity = entry.quantity;
@@ -56,7 +56,7 @@ pub fn put(words: &mut [u32], i: usize, entry: Entry)
 // Adds an entry after the counted ones.
 pub fn append(words: &mut [u32], count: usize, entry: Entry)
     requires { ⌜ (count + 1) * entryWords ≤ length (now words) ⌝ }
-    ensures { λ r. ⌜ now (words .exit) ≡ written (now (words .entry)) (entriesOf (now (words .entry)) count ++ (entry ∷ [])) ⌝ }
+    ensures { λ r. ⌜ now (words .exit) ≡ entriesWritten (now (words .entry)) (entriesOf (now (words .entry)) count ++ (entry ∷ [])) ⌝ }
 {
     put(words, count, entry);
 }

@@ -8,5 +8,5 @@ const INPUT_BYTES: usize = Engine::SHEET_BYTES + 1;
 fn main() {
     let mut input = [0u8; INPUT_BYTES];
     let count = io::read_full(STDIN_FILENO, &mut input);
-    answering::answer(&input[..count]);
+    sheet_program::answer(&input[..count]);
 }

@@ -1,8 +1,8 @@
 -- A sheet, as the function that C and Rust programs link answers it: what is returned, and what the lent count is afterwards.
 -- Lines of a journal are in kept_lines.
 use Prim.Native.Nat.{ℕ}
-use Rattle.desk.specs.declared.Reply.{Reply}
-use Rattle.desk.specs.declared.Reply.the-variants.{Written, Refused}
+use Rattle.sheet_output.specs.declared.Reply.{Reply}
+use Rattle.sheet_output.specs.declared.Reply.the-variants.{Written, Refused}
 
 -- 0, or the refusal's number
 abbrev pub replyNumber : Reply → ℕ

@@ -1,17 +1,17 @@
 // The engine as a static library for C and Rust programs. Each function may be called with any arguments: none has a requirement
 // on them.
-use book_words::BOOK_WORDS;
-use desk::Reply;
+use journal_step::Journal;
+use journal_step::LINE_BYTES;
+use journal_step::REPLY_ROOM;
+use journal_step::WORD_ROOM;
+use library_book::BOOK_WORDS;
 use market::answer::Refusal;
 use market::engine::Engine;
-use replay::Journal;
-use replay::LINE_BYTES;
-use replay::REPLY_ROOM;
-use replay::WORD_ROOM;
+use sheet_output::Reply;
 ghost use mathlib.Core.Path.{_≡_};
 ghost use Rattle.market.specs.Limits.{release, ruleEdition};
-ghost use Rattle.desk.specs.Desk.{answerTo, bufferAfter};
-ghost use Rattle.kept_lines.specs.KeptLines as kept;
+ghost use Rattle.sheet_output.specs.Output.{answerTo, bufferAfter};
+ghost use Rattle.library_line.specs.LibraryLine as kept;
 ghost use Rattle.tra_engine.specs.Library as rules;
 
 // The engine's release.
@@ -38,7 +38,7 @@ pub extern "C" fn tra_sheet(sheet: &[u8], out: &mut [u8], used: &mut usize) -> u
     ensures buffer { λ r. ⌜ now (out .exit) ≡ bufferAfter (now (sheet .entry)) (now (out .entry)) ⌝ }
     ensures count { λ r. ⌜ now (used .exit) ≡ rules.replyCount (answerTo (now (sheet .entry)) (now (out .entry))) (now (used .entry)) ⌝ }
 {
-    let reply = desk::output(sheet, out);
+    let reply = sheet_output::output(sheet, out);
     match reply {
         Reply::Written(count) => {
             *used = count;
@@ -81,20 +81,31 @@ pub extern "C" fn tra_line(
     out: &mut [u8],
     used: &mut usize,
 ) -> u32
-    ensures number { λ r. ⌜ r ≡ kept.lineOn (kept.lent (now (book .entry)) (now (account .entry)) (now (register .entry)) (now (room .entry)) (now (out .entry)) (now (used .entry))) (now (line .entry)) .number ⌝ }
-    ensures memory { λ r. ⌜ kept.lent (now (book .exit)) (now (account .exit)) (now (register .exit)) (now (room .exit)) (now (out .exit)) (now (used .exit)) ≡ kept.lineOn (kept.lent (now (book .entry)) (now (account .entry)) (now (register .entry)) (now (room .entry)) (now (out .entry)) (now (used .entry))) (now (line .entry)) .memory ⌝ }
-    ensures state { λ r. ⌜ (r ≡ 0 → kept.HeldIn (now (book .exit)) (now (account .exit)) (kept.stepOn (kept.lent (now (book .entry)) (now (account .entry)) (now (register .entry)) (now (room .entry)) (now (out .entry)) (now (used .entry))) (kept.taken (now (line .entry))) .journal)) ⌝ }
+    ensures number { λ r. ⌜ r
+        ≡ kept.lineOn
+        (kept.inMemory (now (book .entry)) (now (account .entry)) (now (register .entry)) (now (room .entry)) (now (out .entry)) (now (used .entry)))
+        (now (line .entry)) .number ⌝ }
+    ensures memory { λ r. ⌜
+        kept.inMemory (now (book .exit)) (now (account .exit)) (now (register .exit)) (now (room .exit)) (now (out .exit)) (now (used .exit))
+        ≡ kept.lineOn
+        (kept.inMemory (now (book .entry)) (now (account .entry)) (now (register .entry)) (now (room .entry)) (now (out .entry)) (now (used .entry)))
+        (now (line .entry)) .memory ⌝ }
+    ensures state { λ r. ⌜ (r ≡ 0
+        → kept.HeldIn (now (book .exit)) (now (account .exit))
+        (kept.stepOn
+        (kept.inMemory (now (book .entry)) (now (account .entry)) (now (register .entry)) (now (room .entry)) (now (out .entry)) (now (used .entry)))
+        (kept.taken (now (line .entry))) .journal)) ⌝ }
 {
     if short(book, register, room, out) {
         return Refusal::SHORT_BUFFER;
     }
-    if !book_standing::stand(book) {
+    if !library_book::valid::encodes_book(book) {
         return Refusal::UNSOUND;
     }
     let balance = *account;
-    let held = book_words::book_in(book, balance);
+    let held = library_book::decode::book_in(book, balance);
     let ready = held.path_count != 0;
-    kept_lines::run(
+    library_line::run(
         Journal { ready, book: held },
         book,
         account,

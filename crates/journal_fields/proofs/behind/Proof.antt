@@ -6,19 +6,10 @@ use Prim.Native.Nat.{_-_}
 use Rattle.journal_fields.proofs.behind.Statement.{statement}
 use Rattle.journal_fields.proofs.behind.Tie as tie
 
-sub-result : tie.Need-sub-result
-sub-result c = search needs
-
-part-result-start : tie.Need-part-result-start
-part-result-start c = search needs
-
-part-result-end : tie.Need-part-result-end
-part-result-end c = search needs
-
 returns : tie.Need-returns
 returns c =
     let a = c .before .args in
     take-all (length (a .line .now) - a .at) (drop (a .at) (a .line .now)) (omega (arith, length-drop (a .at) (a .line .now)))
 
 pub behind-spec : {M : Type 1} → statement M
-behind-spec = tie.close (tie.spec sub-result part-result-start part-result-end returns)
+behind-spec = tie.close (tie.spec (λ c. search needs) (λ c. search needs) (λ c. search needs) returns)

@@ -6,17 +6,11 @@ use Rattle.journal_fields.proofs.FieldLaws.{word-room, choice-first, ch
 use Rattle.journal_fields.proofs.choice_at.Statement.{statement}
 use Rattle.journal_fields.proofs.choice_at.Tie as tie
 
-starts-with-requires : tie.Need-starts-with-requires
-starts-with-requires c κs = search needs
-
 returns : tie.Need-returns
 returns c =
     let a = c .before .before .before .before .before .args in
     let e = sym (c .before .starts-with .ensures) ∙ c .if1 .taken in
     (choice-first (a .line .now) (a .at) (a .first .now) (a .second .now) e, word-room (a .first .now) (a .line .now) (a .at) (search needs) e)
-
-starts-with-requires-2 : tie.Need-starts-with-requires-2
-starts-with-requires-2 c κs = search needs
 
 returns-2 : tie.Need-returns-2
 returns-2 c =
@@ -34,4 +28,4 @@ returns-3 c =
 
 pub choice-at-spec : {M : Type 1} → statement M
 choice-at-spec =
-    tie.close (tie.spec starts-with-requires returns starts-with-requires-2 returns-2 returns-3)
+    tie.close (tie.spec (λ c κs. search needs) returns (λ c κs. search needs) returns-2 returns-3)

@@ -6,12 +6,6 @@ use Rattle.journal_fields.proofs.FieldLaws.{last-open, last-here}
 use Rattle.journal_fields.proofs.last_number.Statement.{statement}
 use Rattle.journal_fields.proofs.last_number.Tie as tie
 
-number-at-requires : tie.Need-number-at-requires
-number-at-requires c κs = search needs
-
-sub-if1 : tie.Need-sub-if1
-sub-if1 c = search needs
-
 returns : tie.Need-returns
 returns c =
     let a = c .before .before .before .before .args in
@@ -25,4 +19,4 @@ returns-2 c =
     (last-here (a .line .now) (a .at) (a .limit) (search needs) (found .result) (found .ensures .0) (omega arith), found .ensures .1)
 
 pub last-number-spec : {M : Type 1} → statement M
-last-number-spec = tie.close (tie.spec number-at-requires sub-if1 returns returns-2)
+last-number-spec = tie.close (tie.spec (λ c κs. search needs) (λ c. search needs) returns returns-2)

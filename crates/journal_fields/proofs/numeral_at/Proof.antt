@@ -21,29 +21,17 @@ loop-holds c =
     let a = c .args in
     numeral-none (a .line .now) (a .at) (a .limit) (c .pre)
 
-shared-slice-read-c : tie.Need-shared-slice-read-c Inv-loop μ-loop
-shared-slice-read-c c = search needs
-
-sub-t13 : tie.Need-sub-t13 Inv-loop μ-loop
-sub-t13 c = search needs
-
 returns : tie.Need-returns Inv-loop μ-loop
 returns c =
     let a = c .before .before .before .before .args in
     let to = c .before .before .before .loop in
     (ended-below (a .line .now) (a .at) (a .limit) (to .i) (to .value) (to .inv) (search needs) (omega arith), search needs)
 
-sub-t14 : tie.Need-sub-t14 Inv-loop μ-loop
-sub-t14 c = search needs
-
 returns-2 : tie.Need-returns-2 Inv-loop μ-loop
 returns-2 c =
     let a = c .before .before .before .before .before .args in
     let to = c .before .before .before .before .loop in
     (ended-above (a .line .now) (a .at) (a .limit) (to .i) (to .value) (to .inv) (search needs) (omega arith), search needs)
-
-cast-digit : tie.Need-cast-digit Inv-loop μ-loop
-cast-digit c = search needs
 
 returns-3 : tie.Need-returns-3 Inv-loop μ-loop
 returns-3 c =
@@ -63,18 +51,6 @@ returns-5 c =
     let to = c .before .before .before .before .before .before .before .loop in
     (too-large (a .line .now) (a .at) (a .limit) (to .i) (to .value) (to .inv) (search needs) (omega arith) (omega arith) (omega arith), search needs)
 
-mul-value : tie.Need-mul-value Inv-loop μ-loop
-mul-value c = search needs
-
-add-value : tie.Need-add-value Inv-loop μ-loop
-add-value c = search needs
-
-add-i : tie.Need-add-i Inv-loop μ-loop
-add-i c = search needs
-
-loop-less : tie.Need-loop-less Inv-loop μ-loop
-loop-less c = search needs
-
 loop-again : tie.Need-loop-again Inv-loop μ-loop
 loop-again c =
     let a = c .before .before .before .before .before .before .before .before .args in
@@ -82,9 +58,6 @@ loop-again c =
     numeral-more (a .line .now) (a .at) (a .limit) (to .i) (to .value) (to .inv) (search needs) (omega arith) (omega arith)
     (λ past. ⊎-elim (λ w. omega arith) (λ w. omega arith) (c .before .before .if3 .came))
     (omega arith)
-
-sub-t18 : tie.Need-sub-t18 Inv-loop μ-loop
-sub-t18 c = search needs
 
 returns-6 : tie.Need-returns-6 Inv-loop μ-loop
 returns-6 c =
@@ -99,19 +72,19 @@ numeral-at-spec =
     Inv-loop
     μ-loop
     loop-holds
-    shared-slice-read-c
-    sub-t13
+    (λ c. search needs)
+    (λ c. search needs)
     returns
-    sub-t14
+    (λ c. search needs)
     returns-2
-    cast-digit
+    (λ c. search needs)
     returns-3
     returns-4
     returns-5
-    mul-value
-    add-value
-    add-i
-    loop-less
+    (λ c. search needs)
+    (λ c. search needs)
+    (λ c. search needs)
+    (λ c. search needs)
     loop-again
-    sub-t18
+    (λ c. search needs)
     returns-6)

@@ -4,18 +4,12 @@ use mathlib.Core.Path.{sym, _∙_, ap}
 use Prim.Native.Nat.{ℕ}
 use native.Mathlib.Omega.{arith}
 use mathlib.Core.List.{List}
-use Rattle.register.specs.Words.{entriesOf, putAt}
+use Rattle.register.specs.Words.{entriesOf, entryPut}
 use Rattle.register.proofs.WordLaws.{written-back, entries-length}
 use Rattle.register.proofs.EntryLaws.{put-next}
 use borrow.Author.Needs.{needs}
 use Rattle.register.proofs.append.Statement.{statement}
 use Rattle.register.proofs.append.Tie as tie
-
-put-requires : tie.Need-put-requires
-put-requires c κs = search needs
-
-same-length : tie.Need-same-length
-same-length c = search needs
 
 returns : tie.Need-returns
 returns c =
@@ -23,8 +17,8 @@ returns c =
     let w = a .words .now in
     let es = entriesOf w (a .count) in
     c .before .before .put .ensures
-    ∙ ap (λ (l : List ℕ). putAt l (a .count) (a .entry)) (sym (written-back w (a .count) (omega arith)))
+    ∙ ap (λ (l : List ℕ). entryPut l (a .count) (a .entry)) (sym (written-back w (a .count) (omega arith)))
     ∙ put-next w es (a .count) (a .entry) (entries-length w (a .count))
 
 pub append-spec : {M : Type 1} → statement M
-append-spec = tie.close (tie.spec put-requires same-length returns)
+append-spec = tie.close (tie.spec (λ c κs. search needs) (λ c. search needs) returns)

@@ -9,59 +9,32 @@ use mathlib.Core.Path.{sym, _∙_, ap, subst}
 use mathlib.Core.List.{List}
 use Prim.Native.Nat.{ℕ}
 use Rattle.market.specs.declared.book.Book.{Book}
-use Rattle.book_words.specs.BookWords.{bookIn, FitsBook}
-use Rattle.replay.specs.Replay.{lineStep}
-use Rattle.kept_lines.specs.KeptLines.{Memory, Returned, lent, journalOf, HeldIn, stepOn, leftBy, taken}
-use Rattle.kept_lines.proofs.JournalLaws.{line-held}
-use Rattle.kept_lines.proofs.LineLaws.{enough, line-short, line-unsound, line-run}
+use Rattle.library_book.specs.BookWords.{bookIn, FitsBook}
+use Rattle.journal_step.specs.LineStep.{lineStep}
+use Rattle.library_line.specs.LibraryLine.{Memory, Returned, inMemory, journalOf, HeldIn, stepOn, memoryAfter, taken}
+use Rattle.library_line.proofs.JournalLaws.{line-held}
+use Rattle.library_line.proofs.LineLaws.{enough, line-short, line-unsound, line-run}
 use borrow.Author.Needs.{needs}
 use Rattle.tra_engine.proofs.tra_line.Statement.{statement}
 use Rattle.tra_engine.proofs.tra_line.Tie as tie
 
-short-requires : tie.Need-short-requires
-short-requires c κs = search needs
-
-same-length : tie.Need-same-length
-same-length c = search needs
-
-same-length-2 : tie.Need-same-length-2
-same-length-2 c = search needs
-
-same-length-3 : tie.Need-same-length-3
-same-length-3 c = search needs
-
-same-length-4 : tie.Need-same-length-4
-same-length-4 c = search needs
-
 returns : tie.Need-returns
 returns c =
     let a = c .before .before .before .before .before .before .before .before .before .before .before .args in
-    let m = lent (a .book .now) (a .account .now) (a .register .now) (a .room .now) (a .out .now) (a .used .now) in
+    let m = inMemory (a .book .now) (a .account .now) (a .register .now) (a .room .now) (a .out .now) (a .used .now) in
     let is = line-short m (a .line .now) (sym (c .before .short .ensures) ∙ c .if1 .taken) in
     (ap (λ (x : Returned). x .number) is, (ap (λ (x : Returned). x .memory) is, λ e. absurd (let never : ⊥ = omega (arith, e) in never)))
 
-stand-requires : tie.Need-stand-requires
-stand-requires c κs =
+encodes-book-requires : tie.Need-encodes-book-requires
+encodes-book-requires c κs =
     let a = c .before .before .before .before .before .before .before .before .before .before .before .before .args in
     enough (a .book .now) (a .register .now) (a .room .now) (a .out .now) (sym (c .before .before .short .ensures) ∙ c .before .if1 .left) .words
-
-same-length-5 : tie.Need-same-length-5
-same-length-5 c = search needs
-
-same-length-6 : tie.Need-same-length-6
-same-length-6 c = search needs
-
-same-length-7 : tie.Need-same-length-7
-same-length-7 c = search needs
-
-same-length-8 : tie.Need-same-length-8
-same-length-8 c = search needs
 
 returns-2 : tie.Need-returns-2
 returns-2 c =
     let a = c .before .before .before .before .before .before .before .before .before .before .before .before .before .before .args in
-    let m = lent (a .book .now) (a .account .now) (a .register .now) (a .room .now) (a .out .now) (a .used .now) in
-    let stood = c .before .stand in
+    let m = inMemory (a .book .now) (a .account .now) (a .register .now) (a .room .now) (a .out .now) (a .used .now) in
+    let stood = c .before .encodes-book in
     let fails = sym (stood .ensures) ∙ not-true (stood .result) (c .if2 .taken) in
     let is = line-unsound m (a .line .now) (sym (c .before .before .before .before .short .ensures) ∙ c .before .before .before .if1 .left) fails in
     (ap (λ (x : Returned). x .number) is, (ap (λ (x : Returned). x .memory) is, λ e. absurd (let never : ⊥ = omega (arith, e) in never)))
@@ -69,46 +42,47 @@ returns-2 c =
 book-in-requires : tie.Need-book-in-requires
 book-in-requires c κs =
     let a = c .before .before .before .before .before .before .before .before .before .before .before .before .before .before .before .before .args in
-    enough (a .book .now) (a .register .now) (a .room .now) (a .out .now) (sym (c .before .before .before .before .before .before .short .ensures) ∙ c .before .before .before .before .before .if1 .left) .words
-
-taken-requires : tie.Need-taken-requires
-taken-requires c κs = search needs
+    enough (a .book .now) (a .register .now) (a .room .now) (a .out .now)
+    (sym (c .before .before .before .before .before .before .short .ensures) ∙ c .before .before .before .before .before .if1 .left) .words
 
 run-requires : tie.Need-run-requires
 run-requires c κs =
-    let a = c .before .before .before .before .before .before .before .before .before .before .before .before .before .before .before .before .before .before .before .before .before .before .before .before .before .args in
-    let long = enough (a .book .now) (a .register .now) (a .room .now) (a .out .now) (sym (c .before .before .before .before .before .before .before .before .before .before .before .before .before .before .before .short .ensures) ∙ c .before .before .before .before .before .before .before .before .before .before .before .before .before .before .if1 .left) in
+    let a = c .before .before .before .before .before .before .before .before .before .before .before .before .before .before .before .before .before .before .before .before
+    .before .before .before .before .before .args in
+    let long =
+    enough (a .book .now) (a .register .now) (a .room .now) (a .out .now)
+    (sym (c .before .before .before .before .before .before .before .before .before .before .before .before .before .before .before .short .ensures)
+    ∙ c .before .before .before .before .before .before .before .before .before .before .before .before .before .before .if1 .left) in
     (long .words, (long .own, long .text))
-
-same-length-9 : tie.Need-same-length-9
-same-length-9 c = search needs
-
-same-length-10 : tie.Need-same-length-10
-same-length-10 c = search needs
-
-same-length-11 : tie.Need-same-length-11
-same-length-11 c = search needs
-
-same-length-12 : tie.Need-same-length-12
-same-length-12 c = search needs
 
 returns-3 : tie.Need-returns-3
 returns-3 c =
-    let a = c .before .before .before .before .before .before .before .before .before .before .before .before .before .before .before .before .before .before .before .before .before .before .before .before .before .before .before .before .before .before .before .before .before .before .args in
-    let m = lent (a .book .now) (a .account .now) (a .register .now) (a .room .now) (a .out .now) (a .used .now) in
+    let a = c .before .before .before .before .before .before .before .before .before .before .before .before .before .before .before .before .before .before .before .before
+    .before .before .before .before .before .before .before .before .before .before .before .before .before .before .args in
+    let m = inMemory (a .book .now) (a .account .now) (a .register .now) (a .room .now) (a .out .now) (a .used .now) in
     let line = a .line .now in
     let register = a .register .now in
-    let stood = c .before .before .before .before .before .before .before .before .before .before .before .before .before .before .before .before .before .before .before .before .before .stand in
+    let stood =
+    c .before .before .before .before .before .before .before .before .before .before .before .before .before .before .before .before .before .before .before .before .before .encodes-book in
     let held = c .before .before .before .before .before .before .before .before .before .before .before .before .before .before .before .before .before .book-in in
-    let is-held = held .ensures ∙ ap (bookIn (a .book .now)) (toZ-ofZ {w = w64} {z = a .account .now} (record { sfits = c .before .before .before .before .before .before .before .before .before .before .before .before .before .before .before .before .before .before .before .balance .given })) in
+    let is-held =
+    held .ensures
+    ∙ ap (bookIn (a .book .now))
+    (toZ-ofZ {w = w64} {z = a .account .now}
+    (record { sfits = c .before .before .before .before .before .before .before .before .before .before .before .before .before .before .before .before .before .before .before .balance .given })) in
     let cut = c .before .before .before .before .before .before .before .before .before .before .before .before .taken in
-    let holds = sym (stood .ensures) ∙ not-false (stood .result) (c .before .before .before .before .before .before .before .before .before .before .before .before .before .before .before .before .before .before .before .before .if2 .left) in
-    let is = line-run m line (sym (c .before .before .before .before .before .before .before .before .before .before .before .before .before .before .before .before .before .before .before .before .before .before .before .before .short .ensures) ∙ c .before .before .before .before .before .before .before .before .before .before .before .before .before .before .before .before .before .before .before .before .before .before .before .if1 .left) holds in
+    let holds =
+    sym (stood .ensures)
+    ∙ not-false (stood .result)
+    (c .before .before .before .before .before .before .before .before .before .before .before .before .before .before .before .before .before .before .before .before .if2 .left) in
+    let is = line-run m line (sym (c .before .before .before .before .before .before .before .before .before .before .before .before .before .before .before .before .before
+    .before .before .before .before .before .before .before .short .ensures) ∙ c .before .before .before .before .before .before .before .before .before .before .before .before
+    .before .before .before .before .before .before .before .before .before .before .before .if1 .left) holds in
     let done = c .before .before .before .before .before .before .before .before .run .ensures in
     let memory =
     done .0
-    ∙ ap (λ (l : List ℕ). leftBy m l (lineStep (journalOf (held .result)) register l)) (cut .ensures)
-    ∙ ap (λ (b : Book). leftBy m (taken line) (lineStep (journalOf b) register (taken line))) is-held
+    ∙ ap (λ (l : List ℕ). memoryAfter m l (lineStep (journalOf (held .result)) register l)) (cut .ensures)
+    ∙ ap (λ (b : Book). memoryAfter m (taken line) (lineStep (journalOf b) register (taken line))) is-held
     in
     let fits =
     subst (λ (b : Book). FitsBook (lineStep (journalOf b) register (taken line) .journal .book)) is-held
@@ -125,23 +99,23 @@ pub tra-line-spec : {M : Type 1} → statement M
 tra-line-spec =
     tie.close
     (tie.spec
-    short-requires
-    same-length
-    same-length-2
-    same-length-3
-    same-length-4
+    (λ c κs. search needs)
+    (λ c. search needs)
+    (λ c. search needs)
+    (λ c. search needs)
+    (λ c. search needs)
     returns
-    stand-requires
-    same-length-5
-    same-length-6
-    same-length-7
-    same-length-8
+    encodes-book-requires
+    (λ c. search needs)
+    (λ c. search needs)
+    (λ c. search needs)
+    (λ c. search needs)
     returns-2
     book-in-requires
-    taken-requires
+    (λ c κs. search needs)
     run-requires
-    same-length-9
-    same-length-10
-    same-length-11
-    same-length-12
+    (λ c. search needs)
+    (λ c. search needs)
+    (λ c. search needs)
+    (λ c. search needs)
     returns-3)

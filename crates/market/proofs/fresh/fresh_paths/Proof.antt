@@ -20,32 +20,8 @@ Inv-loop count routes paths₀ i₀ paths i = (i ≤ count) × (paths ≡ filled
 abbrev μ-loop : tie.MeasureT-loop
 μ-loop count routes paths₀ i₀ paths i = count - i
 
-no-path-requires : tie.Need-no-path-requires Inv-loop μ-loop
-no-path-requires c κs = search needs
-
 loop-holds : tie.Need-loop-holds Inv-loop μ-loop
 loop-holds c = (search needs, rw (c .no-path .ensures))
-
-mul-fresh-path : tie.Need-mul-fresh-path Inv-loop μ-loop
-mul-fresh-path c = search needs
-
-array-copy-out-fresh-path : tie.Need-array-copy-out-fresh-path Inv-loop μ-loop
-array-copy-out-fresh-path c = search needs
-
-fresh-path-requires : tie.Need-fresh-path-requires Inv-loop μ-loop
-fresh-path-requires c κs = search needs
-
-mul-paths : tie.Need-mul-paths Inv-loop μ-loop
-mul-paths c = search needs
-
-array-set-from-paths : tie.Need-array-set-from-paths Inv-loop μ-loop
-array-set-from-paths c = search needs
-
-add-i : tie.Need-add-i Inv-loop μ-loop
-add-i c = search needs
-
-loop-less : tie.Need-loop-less Inv-loop μ-loop
-loop-less c = search needs
 
 loop-again : tie.Need-loop-again Inv-loop μ-loop
 loop-again c =
@@ -68,14 +44,14 @@ fresh-paths-spec =
     (tie.spec
     Inv-loop
     μ-loop
-    no-path-requires
+    (λ c κs. search needs)
     loop-holds
-    mul-fresh-path
-    array-copy-out-fresh-path
-    fresh-path-requires
-    mul-paths
-    array-set-from-paths
-    add-i
-    loop-less
+    (λ c. search needs)
+    (λ c. search needs)
+    (λ c κs. search needs)
+    (λ c. search needs)
+    (λ c. search needs)
+    (λ c. search needs)
+    (λ c. search needs)
     loop-again
     returns)

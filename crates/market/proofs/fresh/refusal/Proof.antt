@@ -7,9 +7,6 @@ use borrow.Author.Needs.{needs}
 use Rattle.market.proofs.fresh.refusal.Statement.{statement}
 use Rattle.market.proofs.fresh.refusal.Tie as tie
 
-sound-path-count-requires : tie.Need-sound-path-count-requires
-sound-path-count-requires c κs = search needs
-
 returns : tie.Need-returns
 returns c = rw (sym (c .before .sound-path-count .ensures) ∙ not-true _ (c .if1 .taken))
 
@@ -33,4 +30,4 @@ returns-3 c =
 pub refusal-spec : {M : Type 1} → statement M
 refusal-spec =
     tie.close
-    (tie.spec sound-path-count-requires returns sound-routes-requires returns-2 returns-3)
+    (tie.spec (λ c κs. search needs) returns sound-routes-requires returns-2 returns-3)

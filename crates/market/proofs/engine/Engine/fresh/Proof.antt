@@ -1,32 +1,20 @@
 -- By cases on the refusal's number: any but 0 is the refusal with the book that has no path (refuses), 0 the answer
 -- with the fresh book (takes). Where no row holds, the first row gives the bound on `count` that fresh_paths requires
--- (none-holds).
-use lib.ListN.{replicate, take}
+-- (none-hold).
+use lib.ListN.{replicate}
 use Rattle.market.specs.declared.book.Path.{Path}
 use Rattle.market.specs.Limits.{pathLimit}
-use mathlib.Core.List.{List, [], _∷_}
-use mathlib.Core.Path.{sym, _∙_, ap}
-use mathlib.Core.Bool.{not}
+use mathlib.Core.List.{List}
+use mathlib.Core.Path.{refl, sym, _∙_, ap}
 use borrow.Author.Tests.{not-false}
 use Rattle.market.proofs.SoundLaws.{count-within}
-use Rattle.market.proofs.Tables.{none-holds, refuses, takes}
+use Rattle.market.proofs.Tables.{none-hold, refuses, takes}
 use Rattle.market.specs.Answers.{_gives_, refused, answered}
-use Rattle.market.specs.Fresh.{fresh, freshRefusals, noBook, freshBook, bookOf, soundRoute}
-use Rattle.market.specs.Books.{every}
-use Rattle.market.specs.Sound.{soundPathCount}
+use Rattle.market.specs.Fresh.{fresh, freshRefusals, noBook, freshBook, bookOf}
 use Rattle.market.specs.declared.book.Book.{Book}
 use borrow.Author.Needs.{needs}
 use Rattle.market.proofs.engine.Engine.fresh.Statement.{statement}
 use Rattle.market.proofs.engine.Engine.fresh.Tie as tie
-
-refusal-requires : tie.Need-refusal-requires
-refusal-requires c κs = search needs
-
-no-path-requires : tie.Need-no-path-requires
-no-path-requires c κs = search needs
-
-book-of-requires : tie.Need-book-of-requires
-book-of-requires c κs = search needs
 
 returns : tie.Need-returns
 unfolding fresh noBook
@@ -42,11 +30,7 @@ fresh-paths-requires : tie.Need-fresh-paths-requires
 fresh-paths-requires c κs =
     let a = c .before .before .args in
     let none = sym (c .before .refusal .ensures) ∙ c .if1 .left in
-    let rest = (not (every soundRoute (take (a .count) (a .routes))) gives 25) ∷ [] in
-    count-within (a .count) (not-false _ (none-holds (not (soundPathCount (a .count))) 25 rest tt none .0))
-
-book-of-requires-2 : tie.Need-book-of-requires-2
-book-of-requires-2 c κs = search needs
+    count-within (a .count) (not-false _ (none-hold (freshRefusals (a .routes) (a .count)) refl none .0))
 
 returns-2 : tie.Need-returns-2
 unfolding fresh freshBook
@@ -62,10 +46,10 @@ pub fresh-spec : {M : Type 1} → statement M
 fresh-spec =
     tie.close
     (tie.spec
-    refusal-requires
-    no-path-requires
-    book-of-requires
+    (λ c κs. search needs)
+    (λ c κs. search needs)
+    (λ c κs. search needs)
     returns
     fresh-paths-requires
-    book-of-requires-2
+    (λ c κs. search needs)
     returns-2)

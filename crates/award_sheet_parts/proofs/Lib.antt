@@ -1,0 +1,2 @@
+-- Laws about writing an award sheet.
+pub mod BidderLaws

@@ -1,0 +1,3 @@
+-- The award sheet.
+pub mod AwardSheet
+pub mod Phrases

@@ -1,2 +1,0 @@
--- Laws about the signed account.
-pub mod Balances

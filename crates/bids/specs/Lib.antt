@@ -1,3 +1,0 @@
-pub mod Bids
-pub mod Faults
-pub mod Encoding

@@ -1,0 +1,3 @@
+-- Laws about the signed account.
+pub mod Balances
+pub mod MagnitudeLaws

@@ -1,2 +1,0 @@
--- Laws about words that encode a book.
-pub mod StandLaws

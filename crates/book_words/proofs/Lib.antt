@@ -1,3 +1,0 @@
--- Laws about a book in words.
-pub mod WordLaws
-pub mod ReadBack

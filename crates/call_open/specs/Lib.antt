@@ -1,0 +1,4 @@
+-- The rule of open.
+-- The rule of the paths that open makes.
+pub mod Open
+pub mod OpenedPaths

@@ -1,0 +1,84 @@
+// The paths of the book as open makes them: each with its offer, and nothing sold.
+use call_open_offers::Quantities;
+use market::book::Book;
+use market::book::Kind;
+use market::book::Path;
+use market::book::Period;
+use market::engine::Engine;
+use market::units::Megawatts;
+ghost use mathlib.Core.Path.{_≡_};
+ghost use Prim.Native.Nat.{_+_, _*_, _≤_, _<_};
+ghost use lib.ListN.{length, getD};
+ghost use Rattle.market.specs.Books.{noPath};
+ghost use Rattle.market.specs.Limits.{quantityWords};
+ghost use Rattle.register.specs.Refusals.{countedEntries, LentRegister};
+ghost use Rattle.call_open.specs.OpenedPaths.{quantitiesAt, wordsNeeded, openedPath, openedPaths};
+
+// The four quantities of a path.
+fn quantities_at(quantities: &[u32], i: usize) -> Quantities
+    requires { ⌜ (i + 1) * quantityWords ≤ length (now quantities) ⌝ }
+    ensures { λ r. ⌜ r ≡ quantitiesAt (now (quantities .entry)) i ⌝ }
+{
+    let at = i * Engine::QUANTITY_WORDS;
+    Quantities {
+        base: Megawatts(quantities[at]),
+        upper: Megawatts(quantities[at + 1]),
+        first: Megawatts(quantities[at + 2]),
+        second: Megawatts(quantities[at + 3]),
+    }
+}
+
+// A path of the book with its offer, and nothing sold.
+fn opened_path(
+    book: Book,
+    words: &[u32],
+    kind: Kind,
+    period: Period,
+    quantities: &[u32],
+    i: usize,
+) -> Path
+    requires { ⌜ LentRegister book (now words) ⌝ }
+    requires { ⌜ wordsNeeded book ≤ length (now quantities) ⌝ }
+    requires { ⌜ i < book .«path_count» ⌝ }
+    ensures { λ r. ⌜ r ≡ openedPath kind period (countedEntries book (now (words .entry))) (now (quantities .entry)) i (getD (book .paths) i noPath) ⌝ }
+{
+    let path = book.paths[i];
+    let direction = path.direction;
+    let number = i as u32;
+    let out = register_entries::outstanding_on(
+        words,
+        book.entries,
+        book.path_count,
+        number,
+        period,
+    );
+    let of = quantities_at(quantities, i);
+    let offer = call_open_offers::offer(kind, of, out);
+    Path {
+        direction,
+        zone: path.zone,
+        offer,
+        sold: Megawatts(0),
+    }
+}
+
+// The slots of the book with its paths opened.
+pub fn opened_paths(
+    book: Book,
+    words: &[u32],
+    kind: Kind,
+    period: Period,
+    quantities: &[u32],
+) -> [Path; Engine::PATHS]
+    requires { ⌜ LentRegister book (now words) ⌝ }
+    requires { ⌜ wordsNeeded book ≤ length (now quantities) ⌝ }
+    ensures { λ r. ⌜ r ≡ openedPaths kind period (countedEntries book (now (words .entry))) (now (quantities .entry)) (book .paths) (book .«path_count») ⌝ }
+{
+    let mut paths = book.paths;
+    let count = book.path_count;
+    for i in 0..count {
+        let path = opened_path(book, words, kind, period, quantities, i);
+        paths[i] = path;
+    }
+    paths
+}

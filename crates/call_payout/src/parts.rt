@@ -1,0 +1,96 @@
+// The parts of payout: what an entry earns, and the sums by bidder.
+use market::book::Book;
+use market::book::Entry;
+use market::book::Path;
+use market::engine::Engine;
+use market::units::Day;
+ghost use mathlib.Core.Path.{_≡_};
+ghost use mathlib.Core.Bool.{true, cond};
+ghost use Prim.Native.Nat.{ℕ, _*_, _≤_, _<_};
+ghost use lib.ListN.{length, getD};
+ghost use Rattle.market.specs.Books.{noPath};
+ghost use Rattle.market.specs.Limits.{pathLimit, zoneLimit, quantityLimit, zonePriceLimit, accountLimit};
+ghost use Rattle.register.specs.Refusals.{countedEntries, LentRegister};
+ghost use Rattle.pool_sharing.specs.Sharing.{total};
+ghost use Rattle.call_payout.specs.Payout.{rateOn, paysOn, amountsOf, soundPrices};
+
+// The amounts of the bidders, and their sum.
+pub struct Sums {
+    pub amounts: [u64; Engine::BIDDERS],
+    pub total: u64,
+}
+
+// What one MW earns in the hour on each of the first `count` paths.
+fn rates_of(
+    paths: [Path; Engine::PATHS],
+    count: usize,
+    failed: bool,
+    prices: &[i64],
+) -> [u64; Engine::PATHS]
+    requires { ⌜ count ≤ pathLimit ⌝ }
+    requires { ⌜ soundPrices failed (now prices) ≡ true ⌝ }
+    requires { ⌜ ((i : ℕ) → i < count → getD paths i noPath .zone ≤ zoneLimit) ⌝ }
+    ensures { λ r. ⌜ ((i : ℕ) → i < count → getD r i 0 ≡ rateOn failed (now (prices .entry)) (getD paths i noPath)) ⌝ }
+{
+    let mut rates = [0; Engine::PATHS];
+    for i in 0..count {
+        let path = paths[i];
+        let direction = path.direction;
+        let rate = call_payout_hour::rate_of(
+            call_payout_hour::hour_at(failed, prices, path),
+            direction,
+        );
+        rates[i] = rate;
+    }
+    rates
+}
+
+// Whether an entry is issued and valid on a day.
+fn pays_on(day: Day, entry: Entry) -> bool
+    ensures { λ r. ⌜ r ≡ paysOn day entry ⌝ }
+{
+    let period = entry.period;
+    let first = period.first;
+    let last = period.last;
+    (entry.state == Engine::ISSUED) & (first.0 <= day.0) & (day.0 <= last.0)
+}
+
+// What an entry earns in an hour with these rates.
+fn earned_by(day: Day, rates: &[u64], entry: Entry) -> u64
+    requires { ⌜ entry .path < length (now rates) ⌝ }
+    requires { ⌜ entry .quantity .0 ≤ quantityLimit ⌝ }
+    requires { ⌜ getD (now rates) (entry .path) 0 ≤ zonePriceLimit ⌝ }
+    ensures { λ r. ⌜ r ≡ cond (paysOn day entry) (entry .quantity .0 * getD (now (rates .entry)) (entry .path) 0) 0 ⌝ }
+    ensures { λ r. ⌜ r ≤ quantityLimit * zonePriceLimit ⌝ }
+{
+    if !pays_on(day, entry) {
+        return 0;
+    }
+    let quantity = entry.quantity;
+    let path = entry.path as usize;
+    (quantity.0 as u64) * rates[path]
+}
+
+// The amount of each bidder for the hour. What one MW earns on each path is computed once.
+pub fn amounts_of(book: Book, words: &[u32], day: Day, failed: bool, prices: &[i64]) -> Sums
+    requires { ⌜ LentRegister book (now words) ⌝ }
+    requires { ⌜ soundPrices failed (now prices) ≡ true ⌝ }
+    ensures { λ r. ⌜ r .amounts ≡ amountsOf book day failed (now (prices .entry)) (countedEntries book (now (words .entry))) ⌝ }
+    ensures { λ r. ⌜ r .total ≡ total (amountsOf book day failed (now (prices .entry)) (countedEntries book (now (words .entry)))) ⌝ }
+    ensures { λ r. ⌜ r .total ≤ accountLimit ⌝ }
+{
+    let paths = book.paths;
+    let rates = rates_of(paths, book.path_count, failed, prices);
+    let mut amounts = [0; Engine::BIDDERS];
+    let mut total: u64 = 0;
+    let count = book.entries;
+    for i in 0..count {
+        let entry = register::read(words, i);
+        let cents = earned_by(day, &rates, entry);
+        let bidder = entry.bidder as usize;
+        let more = amounts[bidder] + cents;
+        amounts[bidder] = more;
+        total += cents;
+    }
+    Sums { amounts, total }
+}

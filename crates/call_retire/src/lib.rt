@@ -1,0 +1,45 @@
+// Retire: removes from the register the issued entries that have ended.
+use market::answer::Answer;
+use market::answer::Outcome;
+use market::answer::Refusal;
+use market::book::Book;
+use market::engine::Engine;
+use market::units::Day;
+use register::Removal;
+ghost use mathlib.Core.Path.{_≡_};
+ghost use Rattle.market.specs.Answers.{firstOf};
+ghost use Rattle.call_retire.specs.Retire as rules;
+
+// The refusal of retire, 0 where there is none.
+fn refusal(book: Book, words: &[u32], day: Day) -> u32
+    ensures { λ r. ⌜ r ≡ firstOf (rules.retireTable book (now (words .entry)) day) ⌝ }
+{
+    let number = register_sound::refusal(book, words);
+    if number != Refusal::NONE {
+        return number;
+    }
+    if day.0 > Engine::DAY_LIMIT {
+        return Refusal::DAYS;
+    }
+    Refusal::NONE
+}
+
+// Removes the issued entries whose last day is before `day`.
+pub fn retire(book: Book, words: &mut [u32], day: Day) -> Outcome
+    ensures outcome { λ r. ⌜ r ≡ rules.retire book (now (words .entry)) day ⌝ }
+    ensures words { λ r. ⌜ now (words .exit) ≡ rules.retireWords book (now (words .entry)) day ⌝ }
+{
+    let number = refusal(book, words, day);
+    if number != Refusal::NONE {
+        return Outcome {
+            answer: Answer::Refused(number),
+            book,
+        };
+    }
+    let count = book.entries;
+    let left = register_entries::remove(words, count, Removal::EndedBefore(day));
+    Outcome {
+        answer: Answer::Done,
+        book: book_parts::with_entries(book, left),
+    }
+}

@@ -1,0 +1,52 @@
+-- What follows where nothing refuses a round before its awards.
+use mathlib.Core.Path.{_≡_, _∙_, ap, ap₂}
+use mathlib.Core.Bool.{true}
+use mathlib.Core.List.{List}
+use Prim.Native.Nat.{ℕ, _≤_}
+use lib.ListN.{length, replicate}
+use Rattle.market.proofs.SoundLaws.{sound-parts, count-within}
+use Rattle.market.specs.Limits.{pathLimit, bidLimit, bidderLimit}
+use Rattle.market.specs.Sound.{soundBook}
+use Rattle.market.specs.declared.book.Book.{Book}
+use Rattle.round_bids.proofs.EncodingLaws.{bids-right}
+use Rattle.round_bids.proofs.Walk.{list-sound, bids-few}
+use Rattle.round_bids.specs.BidRefusals.{BidList}
+use Rattle.round_bids.specs.Bids.{bidsOf}
+use Rattle.round_bids.specs.Encoding.{rightBids}
+use Rattle.round_admission.proofs.MarkLaws.{marks-length}
+use Rattle.round_admission.specs.Admission.{biddingLimits}
+use Rattle.round_award_rules.specs.Awards.{awardsOf}
+use Rattle.call_round.specs.Padded.{padded}
+use Rattle.call_round.specs.Ready.{Early, WorkedOut}
+use Rattle.call_round.specs.Round.{offeredNow, marksNow, awardsNow}
+use Rattle.call_round.specs.declared.worked.Worked.{Worked}
+use Rattle.call_round.proofs.RoundLaws.{padded-at, padded-length, awards-same}
+
+module _ (b : Book) (words bidWords answers results scratch : List ℕ) (early : Early b words bidWords answers results scratch) where
+  pub sound : soundBook b ≡ true
+  sound = early .lent .register .sound
+
+  pub paths-few : b .«path_count» ≤ pathLimit
+  paths-few = count-within (b .«path_count») (sound-parts b sound .path-count)
+
+  pub right : rightBids (b .«path_count») (bidsOf bidWords) ≡ true
+  right = bids-right (b .«path_count») bidWords (early .clear)
+
+  pub listed : BidList bidWords
+  listed =
+      record { short = early .short; sound = list-sound (b .«path_count») pathLimit bidWords paths-few (early .clear) }
+
+  module _ (w : Worked) (out : WorkedOut b bidWords w) where
+    pub marks-long : length (w .marks) ≡ bidLimit
+    marks-long =
+        ap (λ (l : List ℕ). length l) (out .marks)
+        ∙ padded-length (marksNow b (bidsOf bidWords)) (length (bidsOf bidWords))
+        (marks-length (biddingLimits b) (replicate bidderLimit 0) (bidsOf bidWords))
+        (bids-few pathLimit bidWords (listed .sound) (early .short))
+
+    pub awards-are : awardsOf (w .offered) (bidsOf bidWords) (w .marks) ≡ awardsNow b (bidsOf bidWords)
+    unfolding awardsNow
+    awards-are =
+        ap₂ (λ (o m : List ℕ). awardsOf o (bidsOf bidWords) m) (out .offers) (out .marks)
+        ∙ awards-same (padded (marksNow b (bidsOf bidWords)) (length (bidsOf bidWords))) (marksNow b (bidsOf bidWords))
+        (padded-at (marksNow b (bidsOf bidWords)) (length (bidsOf bidWords))) (offeredNow b) (bidsOf bidWords)

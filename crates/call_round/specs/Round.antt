@@ -1,0 +1,138 @@
+-- Document 01, "Round.": the whole of it, from the book, the register and the words of the bid list.
+use mathlib.Core.Path.{_≡_}
+use mathlib.Core.Bool.{not}
+use mathlib.Core.List.{List, [], _∷_, _++_}
+use Prim.Native.Nat.{ℕ, zero, suc, _+_}
+use lib.Dec.{leb}
+use lib.ListN.{length}
+use Rattle.market.specs.Answers.{Row, _gives_, firstOf, decided, decidedList}
+use Rattle.market.specs.Limits.{entryLimit, bidListWords, bidAnswerWords, pathAnswerWords, scratchWords}
+use Rattle.market.specs.Sound.{isIdle, roundOf, kindOf, periodOf}
+use Rattle.market.specs.declared.answer.Answer.the-variants.{Bids}
+use Rattle.market.specs.declared.answer.Outcome.{Outcome}
+use Rattle.market.specs.declared.book.Book.{Book}
+use Rattle.market.specs.declared.book.Entry.{Entry}
+use Rattle.register.specs.Refusals.{registerRefusals, countedEntries}
+use Rattle.register.specs.Words.{entriesWritten}
+use Rattle.round_bids.specs.Bids.{Bid, bidsOf}
+use Rattle.round_bids.specs.BidRefusals.{listRefusals}
+use Rattle.round_admission.specs.Admission.{biddingLimits, marksOf}
+use Rattle.round_award_rules.specs.Awards.{Award, awardsOf}
+use Rattle.round_awards.specs.Tables.{wonTable, soldTable, priceTable}
+use Rattle.round_charges.specs.Charges.{chargesOf, bidRows}
+use Rattle.market.specs.Books.{withFront}
+use Rattle.round_entries.specs.Entries.{newEntries}
+use Rattle.round_paths.specs.PathRows.{pathRows}
+use Rattle.round_bidders.specs.Bidders.{billedAll}
+use Rattle.round_paths.specs.Stages.{stageAfter}
+use Rattle.round_paths.specs.PathSales.{offeredBy, soldTo}
+
+-- ---- What a round works out, from the book and its bids
+
+-- "S has one round with the whole offer; L has two: floor(offer/4), then offer − sold"
+abbrev pub offeredNow : Book → List ℕ
+offeredNow b = offeredBy (kindOf (b .stage)) (roundOf (b .stage)) b
+
+-- "In list order a bid is admitted whole ..; otherwise it is marked over"
+abbrev pub marksNow : Book → List Bid → List ℕ
+marksNow b bids = marksOf (biddingLimits b) bids
+
+-- "On each path, admitted laminations take min(MW, what is left)"
+unfoldable pub awardsNow : Book → List Bid → List Award
+awardsNow b bids = awardsOf (offeredNow b) bids (marksNow b bids)
+
+-- the MW of each bid, and the MW sold and the clearing price of each path
+abbrev pub wonNow : Book → List Bid → List ℕ
+wonNow b bids = wonTable (awardsNow b bids)
+
+abbrev pub soldNow : Book → List Bid → List ℕ
+soldNow b bids = soldTable (awardsNow b bids)
+
+abbrev pub pricesNow : Book → List Bid → List ℕ
+pricesNow b bids = priceTable (awardsNow b bids)
+
+-- "Each winning bid adds a pending entry, in bid order."
+abbrev pub entriesNow : Book → List Bid → List Entry
+entriesNow b bids = newEntries (periodOf (b .stage)) (wonNow b bids) bids
+
+-- ---- Refusals
+
+-- 1 "a lent buffer shorter than stated": the bids' and the paths' answers and the scratch
+abbrev pub roundListRefusals : List ℕ → List ℕ → List ℕ → List Row
+roundListRefusals bidAnswers pathAnswers scratch =
+    (not (leb bidAnswerWords (length bidAnswers)) gives 1)
+    ∷ (not (leb pathAnswerWords (length pathAnswers)) gives 1)
+    ∷ (not (leb scratchWords (length scratch)) gives 1)
+    ∷ []
+
+-- 20 "wrong stage"; 22 "bid list over 4,096 words"
+abbrev pub deskRefusals : Book → List ℕ → List Row
+deskRefusals b bidWords =
+    (isIdle (b .stage) gives 20) ∷ (not (leb (length bidWords) bidListWords) gives 22) ∷ []
+
+-- 23 "register entries plus new awards over 1,024"
+abbrev pub roomRefusals : Book → List Bid → List Row
+roomRefusals b bids = (not (leb (b .entries + length (entriesNow b bids)) entryLimit) gives 23) ∷ []
+
+-- those that need no award: 1, 2, 20, 22, and the first faulty bid's 14, 15 or 16
+abbrev pub earlyRefusals : Book → List ℕ → List ℕ → List ℕ → List ℕ → List ℕ → List Row
+earlyRefusals b words bidWords bidAnswers pathAnswers scratch =
+    (roundListRefusals bidAnswers pathAnswers scratch ++ registerRefusals b words)
+    ++ (deskRefusals b bidWords ++ listRefusals (b .«path_count») bidWords)
+
+-- the whole, in the paper's order: 1, 2, 20, 22, then 14, 15 or 16, and 23 last
+abbrev pub roundTable : Book → List ℕ → List ℕ → List ℕ → List ℕ → List ℕ → List Row
+roundTable b words bidWords bidAnswers pathAnswers scratch =
+    earlyRefusals b words bidWords bidAnswers pathAnswers scratch ++ roomRefusals b (bidsOf bidWords)
+
+-- ---- The round
+
+-- "for each of the 32 bidders: its charges are added to owed ..": the book after a round with these MW won, MW sold and clearing
+-- prices, and `entries` entries
+abbrev pub bookWith : Book → List ℕ → List ℕ → List ℕ → List Bid → ℕ → Book
+bookWith b won sold prices bids entries =
+    record {
+      paths = soldTo (b .paths) sold (b .«path_count»);
+      «path_count» = b .«path_count»;
+      bidders = billedAll (b .bidders) (chargesOf won prices bids);
+      account = b .account;
+      entries = entries;
+      stage = stageAfter (b .stage);
+    }
+
+abbrev pub bookAfter : Book → List Bid → Book
+bookAfter b bids =
+    bookWith b (wonNow b bids) (soldNow b bids) (pricesNow b bids) bids (b .entries + length (entriesNow b bids))
+
+-- "The answer carries the number of bids."
+unfoldable pub round : Book → List ℕ → List ℕ → List ℕ → List ℕ → List ℕ → Outcome
+round b words bidWords bidAnswers pathAnswers scratch =
+    decided b (firstOf (roundTable b words bidWords bidAnswers pathAnswers scratch))
+    (record { answer = Bids (length (bidsOf bidWords)); book = bookAfter b (bidsOf bidWords) })
+
+-- the register after it
+unfoldable pub roundWords : Book → List ℕ → List ℕ → List ℕ → List ℕ → List ℕ → List ℕ
+roundWords b words bidWords bidAnswers pathAnswers scratch =
+    decidedList words (firstOf (roundTable b words bidWords bidAnswers pathAnswers scratch))
+    (entriesWritten words (countedEntries b words ++ entriesNow b (bidsOf bidWords)))
+
+-- "each 1 admitted or 0 over, bid value, MW, charge"; "Words past the last bid or path stay."
+unfoldable pub roundBidAnswers : Book → List ℕ → List ℕ → List ℕ → List ℕ → List ℕ → List ℕ
+roundBidAnswers b words bidWords bidAnswers pathAnswers scratch =
+    decidedList bidAnswers (firstOf (roundTable b words bidWords bidAnswers pathAnswers scratch))
+    (withFront
+    (bidRows (marksNow b (bidsOf bidWords)) (wonNow b (bidsOf bidWords)) (pricesNow b (bidsOf bidWords)) (bidsOf bidWords))
+    bidAnswers)
+
+-- "each offered and sold in this round, price or 0"
+unfoldable pub roundPathAnswers : Book → List ℕ → List ℕ → List ℕ → List ℕ → List ℕ → List ℕ
+roundPathAnswers b words bidWords bidAnswers pathAnswers scratch =
+    decidedList pathAnswers (firstOf (roundTable b words bidWords bidAnswers pathAnswers scratch))
+    (withFront
+    (pathRows (offeredNow b) (soldNow b (bidsOf bidWords)) (pricesNow b (bidsOf bidWords)) (b .«path_count»))
+    pathAnswers)
+
+-- "the scratch, which may hold any words after an answered round": as it was after a refusal, and otherwise of the same length
+abbrev pub scratchAfter : ℕ → List ℕ → List ℕ → Type 0
+scratchAfter zero before after = length after ≡ length before
+scratchAfter (suc n) before after = after ≡ before

@@ -1,2 +1,0 @@
--- Laws about the answers of the paths.
-pub mod ClosingLaws

@@ -1,2 +1,0 @@
--- From a sheet to its output.
-pub mod Desk

@@ -1,3 +1,0 @@
--- The reply that a journal prints to each call.
-pub mod Words
-pub mod Answers

@@ -1,0 +1,3 @@
+-- The lines of a journal.
+pub mod Verbs
+pub mod CallLine

@@ -1,3 +1,0 @@
--- The lines of a journal.
-pub mod Verbs
-pub mod Journal

@@ -1,0 +1,45 @@
+-- docs/JOURNAL.md, "What is printed": the reply to each call.
+use mathlib.Core.List.{List, [], _∷_, _++_}
+use Prim.Native.Nat.{ℕ, zero, suc}
+use lib.ListN.{drop, take}
+use Rattle.market.specs.Limits.{bidAnswerSize, pathAnswerSize}
+use Rattle.market.specs.declared.answer.Answer.{Answer}
+use Rattle.market.specs.declared.answer.Answer.the-variants.{Refused, Done, Drawn, Bids}
+use Rattle.text_fields.specs.Fields.{newline}
+use Rattle.journal_rows.specs.Rows.{row, lastRow, rows}
+use Rattle.journal_reply.specs.Words as words
+use Rattle.journal_reply.specs.declared.Told.{Told}
+use Rattle.journal_reply.specs.declared.Told.the-variants.{Nothing, Listed}
+
+-- room for the reply to any call
+abbrev pub replyRoom : ℕ
+replyRoom = 65536
+
+-- how many bids an answer tells of
+abbrev pub bidsIn : Answer → ℕ
+bidsIn (Refused n) = 0
+bidsIn Done = 0
+bidsIn (Drawn d) = 0
+bidsIn (Bids n) = n
+
+-- "behind the slash, of each path, offered and sold in this round, and price or 0"
+abbrev pub pathRowsText : ℕ → List ℕ → List ℕ
+pathRowsText zero results = []
+pathRowsText (suc k) results = row words.slashMark (take pathAnswerSize results) ++ rows words.barMark pathAnswerSize k (drop pathAnswerSize results)
+
+-- "= ok N | M V W C | ... / O S P | ..."
+abbrev pub roundReply : ℕ → List ℕ → ℕ → List ℕ → List ℕ
+roundReply bids answers paths results =
+    row words.okMark (bids ∷ []) ++ rows words.barMark bidAnswerSize bids answers ++ pathRowsText paths results ++ (newline ∷ [])
+
+-- "= ok", and after it the list that the call tells: the offers of an open auction, or 32 amounts
+abbrev pub doneText : Told → List ℕ → List ℕ
+doneText Nothing list = lastRow words.okMark []
+doneText Listed list = lastRow words.okMark list
+
+-- the reply to a call; `list` is the list that it tells, if any, and `answers` and `results` are those of a round
+unfoldable pub replyText : Answer → Told → List ℕ → List ℕ → ℕ → List ℕ → List ℕ
+replyText (Refused n) told list answers paths results = lastRow words.refusedMark (n ∷ [])
+replyText Done told list answers paths results = doneText told list
+replyText (Drawn d) told list answers paths results = lastRow words.okMark (d .0 ∷ [])
+replyText (Bids n) told list answers paths results = roundReply n answers paths results

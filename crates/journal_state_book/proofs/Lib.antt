@@ -1,0 +1,2 @@
+-- Laws about what a journal prints of the state.
+pub mod StateLaws

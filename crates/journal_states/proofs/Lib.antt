@@ -1,3 +1,0 @@
--- Laws about what a journal prints of the state.
-pub mod DebtLaws
-pub mod StateLaws

@@ -1,0 +1,2 @@
+-- One line of a journal, run.
+pub mod LineStep

@@ -1,0 +1,178 @@
+-- docs/JOURNAL.md: one line of a journal, the reply to it, and the state after it. The calls are the engine's own, by `step`.
+use mathlib.Core.Bool.{Bool, true, false, cond}
+use mathlib.Core.List.{List, [], map}
+use Prim.Native.Nat.{ℕ, zero, suc, _*_}
+use lib.Dec.{ltb}
+use lib.IntN.{ℤ}
+use lib.ListN.{length, take, drop, replicate}
+use Rattle.market.specs.Answers.{answerNumber, formRefusal}
+use Rattle.market.specs.Books.{pathsOf, offerOf}
+use Rattle.market.specs.Fresh.{fresh}
+use Rattle.market.specs.Limits.{bidderLimit, bidAnswerWords, pathAnswerWords, pathLimit, scratchWords, zones}
+use Rattle.market.specs.declared.answer.Answer.the-variants.{Refused}
+use Rattle.market.specs.declared.answer.Outcome.{Outcome}
+use Rattle.market.specs.declared.book.Book.{Book}
+use Rattle.engine.specs.Lent.{Lent, lent}
+use Rattle.engine.specs.Step.{Left, step}
+use Rattle.engine.specs.declared.calls.Call.{Call}
+use Rattle.engine.specs.declared.calls.Call.the-variants.{Deposit, Withdraw, Open, Round, Pay, Default, Retire, Rent, Payout, Disburse, Recover}
+use Rattle.text_fields.specs.Fields.{startsWith}
+use Rattle.journal_reply.specs.Replies.{replyText}
+use Rattle.journal_reply.specs.declared.Told.the-variants.{Nothing, Listed}
+use Rattle.journal_fresh_line.specs.FreshLines.{freshSaid}
+use Rattle.journal_fresh_line.specs.declared.FreshLine.{FreshLine}
+use Rattle.journal_call_line.specs.CallLine.{lineSaid, lineWords, linePrices}
+use Rattle.journal_call_line.specs.Verbs.{freshWord}
+use Rattle.journal_call_line.specs.declared.Said.{Said}
+use Rattle.journal_call_line.specs.declared.Said.the-variants.{Faulty, Called}
+use Rattle.journal_step.specs.declared.Journal.{Journal}
+use Rattle.journal_step.specs.declared.answers.Tell.{Tell}
+use Rattle.journal_step.specs.declared.answers.Tell.the-variants as tells
+
+-- ---- What a call is lent
+
+-- "A line has up to 65,536 bytes before its byte 10."
+abbrev pub lineBytes : ℕ
+lineBytes = 65536
+
+-- a word takes at least two of them
+abbrev pub wordRoom : ℕ
+wordRoom = 32768
+
+-- "32 provincial charges, 32 export charges, 32 energies at meters, 32 at interties", one column after another
+abbrev pub column : ℕ → List ℕ → List ℕ
+column k list = take bidderLimit (drop (k * bidderLimit) list)
+
+-- the line's own lists, lists for what the call answers, and a scratch
+abbrev pub lentWith : List ℕ → List ℤ → List ℕ → List ℕ → List ℕ → List ℕ → Lent
+lentWith list prices amounts answers results scratch =
+    lent list list prices
+    (column 0 list)
+    (column 1 list)
+    (column 2 list)
+    (column 3 list)
+    amounts
+    answers
+    results
+    scratch
+
+-- whether a call is a round: only a round takes a list for the answers of bids, and a scratch
+abbrev pub isRound : Call → Bool
+isRound (Deposit bidder to amount) = false
+isRound (Withdraw bidder from amount) = false
+isRound (Open kind period) = false
+isRound Round = true
+isRound (Pay bidder amount) = false
+isRound (Default bidder) = false
+isRound (Retire day) = false
+isRound (Rent amount) = false
+isRound (Payout day failed) = false
+isRound (Disburse total) = false
+isRound (Recover total) = false
+
+-- as many zeros as a round is lent, and none for any other call
+abbrev pub forRound : Call → ℕ → List ℕ
+forRound call n = replicate (cond (isRound call) n 0) 0
+
+-- what a call leaves where its lists for answers are full of zeros
+abbrev pub leftBy : Book → List ℕ → Call → List ℕ → List ℤ → Left
+leftBy b register call list prices =
+    step b register call
+    (lentWith list prices (replicate bidderLimit 0) (forRound call bidAnswerWords) (replicate pathAnswerWords 0) (forRound call scratchWords))
+
+-- ---- The reply to a call
+
+-- what an answered call tells besides its number
+abbrev pub tellBy : Call → Tell
+tellBy (Deposit bidder to amount) = tells.Nothing
+tellBy (Withdraw bidder from amount) = tells.Nothing
+tellBy (Open kind period) = tells.Offers
+tellBy Round = tells.Nothing
+tellBy (Pay bidder amount) = tells.Nothing
+tellBy (Default bidder) = tells.Nothing
+tellBy (Retire day) = tells.Nothing
+tellBy (Rent amount) = tells.Nothing
+tellBy (Payout day failed) = tells.Amounts
+tellBy (Disburse total) = tells.Amounts
+tellBy (Recover total) = tells.Amounts
+
+-- a number of paths, at most as many as a book has slots
+abbrev pub withinSlots : ℕ → ℕ
+withinSlots n = cond (ltb pathLimit n) pathLimit n
+
+abbrev pub offersOf : Book → List ℕ
+offersOf b = map offerOf (pathsOf b)
+
+abbrev pub textBy : Tell → Outcome → List ℕ → List ℕ → List ℕ → List ℕ
+textBy tells.Nothing o amounts answers results = replyText (o .answer) Nothing [] answers (length (pathsOf (o .book))) results
+textBy tells.Offers o amounts answers results = replyText (o .answer) Listed (offersOf (o .book)) answers (length (pathsOf (o .book))) results
+textBy tells.Amounts o amounts answers results = replyText (o .answer) Listed amounts answers (length (pathsOf (o .book))) results
+
+abbrev pub callText : Call → Left → List ℕ
+callText call left = textBy (tellBy call) (left .outcome) (left .amounts) (left .answers) (left .results)
+
+-- ---- A line
+
+-- the state after a line, and the reply to it
+pub record Stepped : Type 0 where
+  pub journal : Journal
+  pub register : List ℕ
+  pub text : List ℕ
+
+-- "A line that has not this form is refused with 40 and changes nothing"
+abbrev pub malformedReply : List ℕ
+malformedReply = replyText (Refused formRefusal) Nothing [] [] 0 []
+
+abbrev pub turnedAway : Journal → List ℕ → Stepped
+turnedAway j register = record { journal = j; register = register; text = malformedReply }
+
+-- a call, by the engine's own rules
+abbrev pub calledBy : Call → Left → Stepped
+calledBy call left =
+    record {
+      journal = record { ready = true; book = left .outcome .book };
+      register = left .words;
+      text = callText call left;
+    }
+
+-- "and so is a call before an answered `fresh`"
+abbrev pub callStep : Bool → Journal → List ℕ → Call → List ℕ → List ℤ → Stepped
+callStep true j register call list prices = calledBy call (leftBy (j .book) register call list prices)
+callStep false j register call list prices = turnedAway j register
+
+-- "A second `fresh` starts anew"; "a refused one changes nothing"
+abbrev pub freshState : Journal → ℕ → Book → Journal
+freshState j zero book = record { ready = true; book = book }
+freshState j (suc n) book = j
+
+abbrev pub freshBy : Journal → List ℕ → Outcome → Stepped
+freshBy j register o =
+    record {
+      journal = freshState j (answerNumber (o .answer)) (o .book);
+      register = register;
+      text = replyText (o .answer) Nothing [] [] 0 [];
+    }
+
+abbrev pub freshStep : Journal → List ℕ → FreshLine → Stepped
+freshStep j register f = cond (f .present) (freshBy j register (fresh (f .routes) (f .count))) (turnedAway j register)
+
+abbrev pub saidStep : Journal → List ℕ → Said → List ℕ → List ℤ → Stepped
+saidStep j register Faulty list prices = turnedAway j register
+saidStep j register (Called call n m) list prices = callStep (j .ready) j register call list prices
+
+-- whether a line is that of a fresh book
+abbrev pub isFresh : List ℕ → Bool
+isFresh line = startsWith freshWord line
+
+unfoldable pub lineStep : Journal → List ℕ → List ℕ → Stepped
+lineStep j register line =
+    cond (isFresh line)
+    (freshStep j register (freshSaid (drop (length freshWord) line)))
+    (saidStep j register (lineSaid wordRoom zones line) (lineWords wordRoom line) (linePrices zones line))
+
+-- the words and prices that a line itself has, which its room then holds at the front
+abbrev pub ownWords : List ℕ → List ℕ
+ownWords line = cond (isFresh line) [] (lineWords wordRoom line)
+
+abbrev pub ownPrices : List ℕ → List ℤ
+ownPrices line = cond (isFresh line) [] (linePrices zones line)

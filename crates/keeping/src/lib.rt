@@ -1,1 +1,0 @@
-// What the calls keep: laws only, in `proofs/`. There is nothing to run here.

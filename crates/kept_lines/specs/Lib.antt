@@ -1,2 +1,0 @@
--- A line of a journal on lent words.
-pub mod KeptLines

@@ -1,0 +1,2 @@
+-- A line of a journal on lent words.
+pub mod LibraryLine

@@ -1,2 +1,0 @@
--- Laws about lines.
-pub mod LineLaws

@@ -1,4 +1,0 @@
--- Laws about lots, each in one word.
-pub mod OneBid
-pub mod PackedLaws
-pub mod PutLaws

@@ -1,2 +1,0 @@
--- Laws about the paths that open makes.
-pub mod PathLaws

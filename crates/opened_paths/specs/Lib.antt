@@ -1,2 +1,0 @@
--- The rule of the paths that open makes.
-pub mod OpenedPaths

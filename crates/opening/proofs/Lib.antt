@@ -1,2 +1,0 @@
--- Laws about open.
-pub mod Cleared

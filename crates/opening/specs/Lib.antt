@@ -1,2 +1,0 @@
--- The rule of open.
-pub mod Open

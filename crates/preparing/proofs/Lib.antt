@@ -1,5 +1,0 @@
--- Laws about the calls before the first round.
-pub mod DepositLaws
-pub mod KeepDeposits
-pub mod PreparingLaws
-pub mod SlotLaws

@@ -1,3 +1,0 @@
--- The calls before the first round.
-pub mod PreparedSlots
-pub mod Preparing

@@ -1,0 +1,114 @@
+// The register's counted entries: those of a bidder issued, some removed, and the megawatts outstanding on a path, which are those
+// of its entries whose period shares a day with a given one.
+use market::book::Entry;
+use market::book::Period;
+use market::engine::Engine;
+use market::units::Megawatts;
+use register::Removal;
+ghost use mathlib.Core.Path.{_≡_};
+ghost use mathlib.Core.Bool.{cond, true};
+ghost use mathlib.Core.List.{map};
+ghost use Prim.Native.Nat.{_+_, _*_, _≤_, _<_};
+ghost use lib.ListN.{length};
+ghost use Rattle.market.specs.Limits.{entryWords, entryLimit};
+ghost use Rattle.register.specs.Entries.{issuedTo, goes, without, soundEntry, countedOf, outstanding};
+ghost use Rattle.register.specs.Words.{entryAt, entriesOf, entryPut, entriesWritten};
+ghost use Rattle.market.specs.Books.{every, megawatts};
+
+fn issued_to(bidder: u32, entry: Entry) -> Entry
+    ensures { λ r. ⌜ r ≡ issuedTo bidder entry ⌝ }
+{
+    let mut next = entry;
+    if entry.bidder == bidder {
+        next.state = Engine::ISSUED;
+        return next;
+    }
+    next
+}
+
+// Issues a bidder's entries.
+pub fn issue(words: &mut [u32], count: usize, bidder: u32)
+    requires { ⌜ count * entryWords ≤ length (now words) ⌝ }
+    ensures { λ r. ⌜ now (words .exit) ≡ entriesWritten (now (words .entry)) (map (issuedTo bidder) (entriesOf (now (words .entry)) count)) ⌝ }
+{
+    for i in 0..count {
+        let entry = issued_to(bidder, register::read(words, i));
+        register::put(words, i, entry);
+    }
+}
+
+fn is_gone(what: Removal, entry: Entry) -> bool
+    ensures { λ r. ⌜ r ≡ goes what entry ⌝ }
+{
+    let period = entry.period;
+    let last = period.last;
+    match what {
+        Removal::PendingOf(bidder) => (entry.bidder == bidder) & (entry.state == Engine::PENDING),
+        Removal::EndedBefore(day) => (entry.state == Engine::ISSUED) & (last.0 < day.0),
+    }
+}
+
+// Looks at one more entry: unless it is to be removed, it is put after those that stay. Returns how many stay.
+fn keep(words: &mut [u32], i: usize, kept: usize, what: Removal) -> usize
+    requires { ⌜ (i + 1) * entryWords ≤ length (now words) ⌝ }
+    requires { ⌜ kept ≤ i ⌝ }
+    ensures count { λ r. ⌜ r ≡ cond (goes what (entryAt (now (words .entry)) i)) kept (kept + 1) ⌝ }
+    ensures words { λ r. ⌜ now (words .exit)
+        ≡ cond (goes what (entryAt (now (words .entry)) i)) (now (words .entry)) (entryPut (now (words .entry)) kept (entryAt (now (words .entry)) i)) ⌝ }
+{
+    let entry = register::read(words, i);
+    if is_gone(what, entry) {
+        return kept;
+    }
+    register::put(words, kept, entry);
+    kept + 1
+}
+
+// Removes the entries that `what` names; the others keep their order. Returns how many stay.
+pub fn remove(words: &mut [u32], count: usize, what: Removal) -> usize
+    requires { ⌜ count * entryWords ≤ length (now words) ⌝ }
+    ensures kept { λ r. ⌜ r ≡ length (without what (entriesOf (now (words .entry)) count)) ⌝ }
+    ensures words { λ r. ⌜ now (words .exit) ≡ entriesWritten (now (words .entry)) (without what (entriesOf (now (words .entry)) count)) ⌝ }
+{
+    let mut kept: usize = 0;
+    for i in 0..count {
+        kept = keep(words, i, kept, what);
+    }
+    kept
+}
+
+fn counted(path: u32, period: Period, entry: Entry) -> u32
+    ensures { λ r. ⌜ r ≡ countedOf path period entry ⌝ }
+{
+    let quantity = entry.quantity;
+    let days = entry.period;
+    let first = days.first;
+    let last = days.last;
+    let new_first = period.first;
+    let new_last = period.last;
+    if (entry.path == path) & ((first.0 <= new_last.0) & (new_first.0 <= last.0)) {
+        return quantity.0;
+    }
+    0
+}
+
+// The megawatts of a path's counted entries whose period shares a day with `period`.
+pub fn outstanding_on(
+    words: &[u32],
+    count: usize,
+    paths: usize,
+    path: u32,
+    period: Period,
+) -> Megawatts
+    requires { ⌜ count * entryWords ≤ length (now words) ⌝ }
+    requires { ⌜ count ≤ entryLimit ⌝ }
+    requires { ⌜ every (soundEntry paths) (entriesOf (now words) count) ≡ true ⌝ }
+    ensures { λ r. ⌜ r ≡ megawatts (outstanding path period (entriesOf (now (words .entry)) count)) ⌝ }
+{
+    let mut sum: u32 = 0;
+    for i in 0..count {
+        let more = counted(path, period, register::read(words, i));
+        sum += more;
+    }
+    Megawatts(sum)
+}

@@ -1,2 +1,0 @@
--- One line of a journal, run.
-pub mod Replay

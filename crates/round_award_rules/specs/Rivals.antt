@@ -1,0 +1,47 @@
+-- Document 01, "A rival award gives each lamination (pair) of an admitted bid 0 up to its own MW, no path more in all than the
+-- round offers; the engine's fills a bid's laminations in order with its answered MW. Bid value, in total or for what a bid won,
+-- sums price × MW given."
+use mathlib.Core.Bool.{cond}
+use mathlib.Core.List.{List, [], _∷_}
+use Prim.Native.Nat.{ℕ, _+_, _*_, _-_, _≤_, min}
+use lib.Dec.{eqb}
+use lib.ListN.{getD}
+use Rattle.round_bids.specs.Bids.{Bid}
+use Rattle.round_bids.specs.declared.Lamination.{Lamination}
+use Rattle.round_award_rules.specs.Awards.{Claim, sumOf}
+
+-- a fact of each claim
+abbrev pub Each : (Claim → Type 0) → List Claim → Type 0
+Each holds [] = Unit {0}
+Each holds (l ∷ ls) = holds l × Each holds ls
+
+-- a rival award: the MW that it gives to the pair at each place of the list
+abbrev pub Rival : Type 0
+Rival = ℕ → ℕ
+
+-- what it gives on a path
+abbrev pub givenOn : Rival → ℕ → List Claim → ℕ
+givenOn gives path claims = sumOf (λ (l : Claim). cond (eqb (l .path) path) (gives (l .place)) 0) claims
+
+-- "0 up to its own MW, no path more in all than the round offers"
+pub record Legal (offered : List ℕ) (claims : List Claim) (gives : Rival) : Type 0 where
+  pub own : Each (λ l. gives (l .place) ≤ l .quantity) claims
+  pub shared : (path : ℕ) → givenOn gives path claims ≤ getD offered path 0
+
+-- its total bid value: "sums price × MW given"
+abbrev pub rivalValue : Rival → List Claim → ℕ
+rivalValue gives claims = sumOf (λ (l : Claim). l .price * gives (l .place)) claims
+
+-- "fills a bid's laminations in order with its answered MW": the bid value of a bid that won `won` MW
+abbrev pub filledValue : ℕ → List Lamination → ℕ
+filledValue won [] = 0
+filledValue won (l ∷ ls) =
+    l .price .0 * min (l .quantity .0) won + filledValue (won - min (l .quantity .0) won) ls
+
+-- the total bid value of bids with these MW won, from a number on
+abbrev pub totalValueFrom : (ℕ → ℕ) → ℕ → List Bid → ℕ
+totalValueFrom won bid [] = 0
+totalValueFrom won bid (b ∷ bs) = filledValue (won bid) (b .laminations) + totalValueFrom won (bid + 1) bs
+
+abbrev pub totalValue : (ℕ → ℕ) → List Bid → ℕ
+totalValue won bids = totalValueFrom won 0 bids

@@ -1,0 +1,2 @@
+-- Laws about bidders and their charges.
+pub mod BillLaws

@@ -1,0 +1,36 @@
+-- Document 01, what a round leaves for bidders: "Then for each of the 32 bidders: its charges are added to owed; min(cash, owed)
+-- moves from cash to applied and leaves owed; hold = min(letter, floor(owed/10))".
+use mathlib.Core.List.{List}
+use Prim.Native.Nat.{ℕ, zero, suc, _+_, _-_, _/_, min}
+use lib.ListN.{getD, set}
+use Rattle.market.specs.Books.{cents, noBidder}
+use Rattle.market.specs.Limits.{bidderLimit}
+use Rattle.market.specs.declared.book.Bidder.{Bidder}
+
+-- "its charges are added to owed", and what "min(cash, owed) moves"
+abbrev pub owedWith : Bidder → ℕ → ℕ
+owedWith x charges = x .owed .0 + charges
+
+abbrev pub movedOf : Bidder → ℕ → ℕ
+movedOf x charges = min (x .cash .0) (owedWith x charges)
+
+-- "moves from cash to applied and leaves owed; hold = min(letter, floor(owed/10))", from what is then owed
+abbrev pub billed : Bidder → ℕ → Bidder
+billed x charges =
+    record {
+      cash = cents (x .cash .0 - movedOf x charges);
+      applied = cents (x .applied .0 + movedOf x charges);
+      letter = x .letter;
+      hold = cents (min (x .letter .0) ((owedWith x charges - movedOf x charges) / 10));
+      owed = cents (owedWith x charges - movedOf x charges);
+      step = x .step;
+    }
+
+-- "for each of the 32 bidders": the first `n` billed, each with its charges
+abbrev pub billedTo : List Bidder → List ℕ → ℕ → List Bidder
+billedTo bidders charges zero = bidders
+billedTo bidders charges (suc n) =
+    set (billedTo bidders charges n) n (billed (getD bidders n noBidder) (getD charges n 0))
+
+abbrev pub billedAll : List Bidder → List ℕ → List Bidder
+billedAll bidders charges = billedTo bidders charges bidderLimit

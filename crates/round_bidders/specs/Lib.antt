@@ -1,0 +1,2 @@
+-- What a round leaves for bidders.
+pub mod Bidders

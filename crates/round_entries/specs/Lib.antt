@@ -1,0 +1,2 @@
+-- The winning bids of a round, and their entries.
+pub mod Entries

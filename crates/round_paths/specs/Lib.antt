@@ -1,0 +1,3 @@
+pub mod PathSales
+pub mod Stages
+pub mod PathRows

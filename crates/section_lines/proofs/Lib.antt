@@ -1,2 +1,0 @@
--- Laws about the lines of a section.
-pub mod BidderLaws

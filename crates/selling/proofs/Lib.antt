@@ -1,2 +1,0 @@
--- Laws about paths and what they sold.
-pub mod SoldLaws

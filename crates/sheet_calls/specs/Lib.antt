@@ -1,0 +1,3 @@
+-- The calls before the first round.
+pub mod CallSlots
+pub mod Calls

@@ -1,0 +1,51 @@
+// Fresh book, deposits, open: the calls of a sheet before its first round, in the order of the sheet.
+mod deposits;
+pub mod slots;
+
+use market::answer::Outcome;
+use market::answer::Refusal;
+use market::book::Book;
+use market::book::Kind;
+use market::book::Period;
+use market::engine::Engine;
+use sheet_form::rows::BidderRows;
+use sheet_form::rows::PathRows;
+ghost use mathlib.Core.Path.{_≡_};
+ghost use mathlib.Core.Bool.{true};
+ghost use Prim.Native.Nat.{_≤_};
+ghost use lib.ListN.{take};
+ghost use Rattle.market.specs.Books.{every};
+ghost use Rattle.market.specs.Limits.{bidderLimit, pathLimit};
+ghost use Rattle.sheet_calls.specs.CallSlots.{isListed, openWith, openedSlots};
+
+// Open with an empty register and the quantities of as many paths as are counted.
+fn open_with(book: Book, kind: Kind, period: Period, paths: PathRows) -> Outcome
+    requires { ⌜ paths .count ≤ pathLimit ⌝ }
+    ensures { λ r. ⌜ r ≡ openWith book kind period paths ⌝ }
+{
+    let words = [0u32; Engine::REGISTER_WORDS];
+    let lines = paths.lines;
+    let all = slots::quantities(lines);
+    let counted = paths.count * Engine::QUANTITY_WORDS;
+    call_open::open(book, &words, kind, period, &all[..counted])
+}
+
+// Fresh book, deposits, open; the first refusal ends the calls.
+pub fn opened(kind: Kind, period: Period, bidders: BidderRows, paths: PathRows) -> Outcome
+    requires { ⌜ bidders .count ≤ bidderLimit ⌝ }
+    requires { ⌜ every isListed (bidders .lines) ≡ true ⌝ }
+    ensures { λ r. ⌜ r ≡ openedSlots kind period (take (bidders .count) (bidders .lines)) paths ⌝ }
+{
+    let lines = paths.lines;
+    let made = Engine::fresh(slots::routes(lines), paths.count);
+    let first = made.answer;
+    if first.number() != Refusal::NONE {
+        return made;
+    }
+    let funded = deposits::deposits(made.book, bidders);
+    let second = funded.answer;
+    if second.number() != Refusal::NONE {
+        return funded;
+    }
+    open_with(funded.book, kind, period, paths)
+}

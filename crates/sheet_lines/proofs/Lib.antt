@@ -1,0 +1,4 @@
+-- Laws about lines.
+-- Laws about the lines of a section.
+pub mod LineLaws
+pub mod BidderLaws

@@ -1,3 +1,0 @@
--- Laws about the calls of a sheet up to open.
-pub mod QuantityLaws
-pub mod OpeningLaws

@@ -1,0 +1,2 @@
+-- From a sheet to its output.
+pub mod Output

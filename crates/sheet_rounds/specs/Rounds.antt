@@ -1,0 +1,72 @@
+-- Document 01, "rounds in sheet order; the first engine refusal prints only "refused N"."
+use mathlib.Core.List.{List, [], _∷_, _++_}
+use Prim.Native.Nat.{ℕ, zero, suc}
+use lib.ListN.{replicate}
+use Rattle.market.specs.Answers.{answerNumber}
+use Rattle.market.specs.Limits.{bidAnswerWords, pathAnswerWords, scratchWords}
+use Rattle.market.specs.declared.answer.Outcome.{Outcome}
+use Rattle.market.specs.declared.book.Book.{Book}
+use Rattle.call_round.specs.Round.{round, roundWords, roundBidAnswers, roundPathAnswers}
+use Rattle.sheet_calls.specs.Calls.{emptyRegister}
+use Rattle.award_sheet_round.specs.RoundLines.{RoundMade}
+use Rattle.award_sheet_parts.specs.AwardSheet.{awardText, refusedText}
+use Rattle.award_sheet.specs.Rounds.{made}
+
+-- after some of the calls: the last outcome, the register, and the rounds called
+pub record Progress : Type 0 where
+  pub outcome : Outcome
+  pub words : List ℕ
+  pub rounds : List RoundMade
+
+-- the lists that a round is lent to write to
+abbrev pub answersLent : List ℕ
+answersLent = replicate bidAnswerWords 0
+
+abbrev pub resultsLent : List ℕ
+resultsLent = replicate pathAnswerWords 0
+
+abbrev pub scratchLent : List ℕ
+scratchLent = replicate scratchWords 0
+
+-- a round, called with the words of its bids
+unfoldable pub sheetRound : Book → List ℕ → List RoundMade → List ℕ → Progress
+sheetRound b words before bids =
+    record {
+      outcome = round b words bids answersLent resultsLent scratchLent;
+      words = roundWords b words bids answersLent resultsLent scratchLent;
+      rounds =
+          before
+          ++ (made bids (roundBidAnswers b words bids answersLent resultsLent scratchLent)
+          (roundPathAnswers b words bids answersLent resultsLent scratchLent)
+          ∷ []);
+    }
+
+abbrev pub unlessStopped : ℕ → Progress → Progress → Progress
+unlessStopped zero done next = next
+unlessStopped (suc n) done next = done
+
+-- "rounds in sheet order", each by the words of its bids
+abbrev pub roundsFrom : Progress → List (List ℕ) → Progress
+roundsFrom done [] = done
+roundsFrom done (bids ∷ more) =
+    roundsFrom
+    (unlessStopped (answerNumber (done .outcome .answer)) done
+    (sheetRound (done .outcome .book) (done .words) (done .rounds) bids))
+    more
+
+abbrev pub begun : Outcome → Progress
+begun o = record { outcome = o; words = emptyRegister; rounds = [] }
+
+-- ---- The output
+
+-- "the first engine refusal prints only "refused N""
+abbrev pub roundsOutput : ℕ → List ℕ → Progress → List ℕ
+roundsOutput zero listed done = awardText (done .rounds) (done .outcome .book) listed
+roundsOutput (suc n) listed done = refusedText (suc n)
+
+abbrev pub ended : List ℕ → Progress → List ℕ
+ended listed done = roundsOutput (answerNumber (done .outcome .answer)) listed done
+
+-- the output, from the outcome of the calls up to open, the bidders listed, and the words of the rounds
+unfoldable pub outputFrom : Outcome → List ℕ → List (List ℕ) → List ℕ
+outputFrom o listed rounds = ended listed (roundsFrom (begun o) rounds)

@@ -1,2 +1,0 @@
--- Laws about bidders and their charges.
-pub mod SweepLaws

@@ -1,2 +1,0 @@
--- Laws about the count of winners.
-pub mod WinnerLaws

@@ -1,2 +1,0 @@
--- Laws about the entries of the bids that won.
-pub mod EntryLaws
