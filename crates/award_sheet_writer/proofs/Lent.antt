@@ -132,7 +132,7 @@ module _ (L : Loan) where
   abbrev pub Wrote : Writer → ℕ → List ℕ → Type 0
   Wrote next m bs = (m ≡ next .filled) × ((bs ≡ next .out .now) × (length bs ≡ length bytes))
 
-  -- a text put at a place gives the next writer: behind what was filled, and at the front
+  -- a text put at a place gives the next writer: after what was filled, and at the front
   abbrev Puts : ℕ → List ℕ → Writer → Type 0
   Puts at text next = (m : ℕ) (bs : List ℕ) → Put bytes at text bs m → (m ≡ next .filled) × (bs ≡ next .out .now)
 

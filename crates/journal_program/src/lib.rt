@@ -1,4 +1,4 @@
-// Journals run and printed: the reply to each line of a text, and then the state. `replay::answer_line` makes the replies; these
+// Journals run and printed: the reply to each line of a text, and then the state. `journal_step::answer_line` makes the replies; these
 // functions only find the lines and write.
 use journal_step::Journal;
 use journal_step::LINE_BYTES;

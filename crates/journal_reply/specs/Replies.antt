@@ -22,7 +22,7 @@ bidsIn Done = 0
 bidsIn (Drawn d) = 0
 bidsIn (Bids n) = n
 
--- "behind the slash, of each path, offered and sold in this round, and price or 0"
+-- "after the slash, of each path, offered and sold in this round, and price or 0"
 abbrev pub pathRowsText : ℕ → List ℕ → List ℕ
 pathRowsText zero results = []
 pathRowsText (suc k) results = row words.slashMark (take pathAnswerSize results) ++ rows words.barMark pathAnswerSize k (drop pathAnswerSize results)

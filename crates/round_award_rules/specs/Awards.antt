@@ -11,7 +11,7 @@ use Rattle.round_bids.specs.declared.Lamination.{Lamination}
 
 -- ---- The laminations of admitted bids
 
--- a lamination that may win: the number of its bid in the list, the place of its pair among the list's words, its path, and
+-- a claim is a lamination that may win: the number of its bid in the list, the place of its pair among the list's words, its path, and
 -- the pair
 pub record Claim : Type 0 where
   pub bid : ℕ

@@ -12,7 +12,7 @@ ghost use Rattle.round_bids.specs.Bids.{bidAt};
 ghost use Rattle.round_award_rules.specs.Awards.{claimsOfBid};
 ghost use Rattle.round_claims.specs.Packed.{packed, packedFrom, placeIn, claimIn, claimsBetween};
 
-// A lamination of an admitted bid: the bid's number, its path, and the pair.
+// A claim, which is a lamination of an admitted bid: the bid's number, its path, and the pair.
 pub struct Claim {
     pub bid: usize,
     pub path: usize,
