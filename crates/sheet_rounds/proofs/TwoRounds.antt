@@ -28,60 +28,6 @@ pub goes-on : (n : ℕ) (done next : Progress) → n ≡ 0 → unlessStopped n d
 goes-on zero done next none = refl
 goes-on (suc n) done next none = absurd (let bad : ⊥ = omega (arith, none) in bad)
 
--- the book and the register between the rounds, and the second round
-module _ (b : Book) (first second : List ℕ) where
-  abbrev bookBetween : Book
-  bookBetween = answerOf b emptyRegister first .book
-
-  abbrev wordsBetween : List ℕ
-  wordsBetween = wordsAfter b emptyRegister first
-
-  abbrev pub firstNumber : ℕ
-  firstNumber = answerNumber (answerOf b emptyRegister first .answer)
-
-  abbrev pub later : Outcome
-  later = answerOf bookBetween wordsBetween second
-
-  abbrev rounds : List RoundMade
-  rounds = madeBy b emptyRegister first ∷ madeBy bookBetween wordsBetween second ∷ []
-
-  abbrev one : Progress
-  one = sheetRound b emptyRegister [] first
-
-  abbrev two : Progress
-  two = sheetRound bookBetween wordsBetween (madeBy b emptyRegister first ∷ []) second
-
-  -- the second call is the rule's second round
-  pub second-is : {o p : Outcome} {words : List ℕ} → o ≡ answerOf b emptyRegister first → words ≡ wordsBetween → p ≡ answerOf (o .book) words second → p ≡ later
-  second-is is kept e = e ∙ ap₂ (λ (x : Book) (w : List ℕ). answerOf x w second) (ap (λ (x : Outcome). x .book) is) kept
-
-module _ (b : Book) (first second listed : List ℕ) where
-  two-output : outputFrom (answered b) listed (first ∷ second ∷ []) ≡ ended listed (unlessStopped (firstNumber b first second) (one b first second) (two b first second))
-  unfolding outputFrom sheetRound
-  two-output = refl
-
-  pub first-refused : {n : ℕ} → n ≡ firstNumber b first second → (n ≡ 0 → ⊥) → outputFrom (answered b) listed (first ∷ second ∷ []) ≡ refusedText n
-  unfolding sheetRound
-  first-refused is some =
-      let refused : firstNumber b first second ≡ 0 → ⊥ = λ none. some (is ∙ none) in
-      two-output
-      ∙ ap (ended listed) (stopped (firstNumber b first second) (one b first second) (two b first second) refused)
-      ∙ written-refused (firstNumber b first second) listed (one b first second) refused
-      ∙ ap refusedText (sym is)
-
-  module _ (none : firstNumber b first second ≡ 0) where
-    goes : outputFrom (answered b) listed (first ∷ second ∷ []) ≡ ended listed (two b first second)
-    goes = two-output ∙ ap (ended listed) (goes-on (firstNumber b first second) (one b first second) (two b first second) none)
-
-    pub second-refused : {n : ℕ} → n ≡ answerNumber (later b first second .answer) → (n ≡ 0 → ⊥) → outputFrom (answered b) listed (first ∷ second ∷ []) ≡ refusedText n
-    unfolding sheetRound
-    second-refused is some =
-        goes ∙ written-refused (answerNumber (later b first second .answer)) listed (two b first second) (λ none. some (is ∙ none)) ∙ ap refusedText (sym is)
-
-    both-answered : answerNumber (later b first second .answer) ≡ 0 → outputFrom (answered b) listed (first ∷ second ∷ []) ≡ awardText (rounds b first second) (later b first second .book) listed
-    unfolding sheetRound
-    both-answered fine = goes ∙ written-answered (answerNumber (later b first second .answer)) listed (two b first second) fine
-
 -- the rounds of a long auction, with the lists as they were filled: what their award sheet requires, and that it is the output
 pub record TwoDone (b : Book) (first second listed answers results laterAnswers laterResults : List ℕ) (after : Book) : Type 0 where
   pub lists : Answered first answers results
@@ -90,53 +36,97 @@ pub record TwoDone (b : Book) (first second listed answers results laterAnswers 
   pub fits : length (awardText (made first answers results ∷ made second laterAnswers laterResults ∷ []) after listed) ≤ awardSheetBytes
   pub output : outputFrom (answered b) listed (first ∷ second ∷ []) ≡ awardText (made first answers results ∷ made second laterAnswers laterResults ∷ []) after listed
 
-module _ (b : Book) (first second listed : List ℕ) (state : SoundState b emptyRegister) (few : length listed ≤ bidderLimit) (all : every isBidder listed ≡ true) where
+module _ (b : Book) (first second : List ℕ) where
+  -- the book and the register between the rounds
   abbrev book : Book
-  book = bookBetween b first second
+  book = answerOf b emptyRegister first .book
 
   abbrev words : List ℕ
-  words = wordsBetween b first second
+  words = wordsAfter b emptyRegister first
 
-  abbrev after : Book
-  after = later b first second .book
+  abbrev pub firstNumber : ℕ
+  firstNumber = answerNumber (answerOf b emptyRegister first .answer)
 
-  module _ (none : firstNumber b first second ≡ 0) (fine : answerNumber (later b first second .answer) ≡ 0) where
-    between : SoundState book words
-    between = state-after b emptyRegister first state none
+  abbrev later : Outcome
+  later = answerOf book words second
 
-    same : after .«path_count» ≡ book .«path_count»
-    same = paths-same book words second between fine
+  abbrev laterNumber : ℕ
+  laterNumber = answerNumber (later .answer)
 
-    first-sizes : RoundSizes (after .«path_count») (madeBy b emptyRegister first)
-    first-sizes =
-        subst (λ (n : ℕ). RoundSizes n (madeBy b emptyRegister first)) (sym (same ∙ paths-same b emptyRegister first state none))
-        (sizes-after b emptyRegister first state none)
+  abbrev rounds : List RoundMade
+  rounds = madeBy b emptyRegister first ∷ madeBy book words second ∷ []
 
-    second-sizes : RoundSizes (after .«path_count») (madeBy book words second)
-    second-sizes = subst (λ (n : ℕ). RoundSizes n (madeBy book words second)) (sym same) (sizes-after book words second between fine)
+  abbrev one : Progress
+  one = sheetRound b emptyRegister [] first
 
-    both-done : TwoDone b first second listed (bidAnswers b emptyRegister first) (pathAnswers b emptyRegister first) (bidAnswers book words second) (pathAnswers book words second) after
-    both-done =
-        record {
-          lists = lists-are b emptyRegister first state none;
-          later-lists = lists-are book words second between fine;
-          paths = paths-within book words second listed between fine few all;
-          fits =
-              award-fits (rounds b first second) after listed (omega arith) (first-sizes, (second-sizes, tt))
-              (state-after book words second between fine .sound) few all;
-          output = both-answered b first second listed none fine;
-        }
+  abbrev two : Progress
+  two = sheetRound book words (madeBy b emptyRegister first ∷ []) second
 
-  -- the same for the outcomes and the lists that the rounds gave
-  pub two-done :
-      {o p : Outcome} {register answers results laterAnswers laterResults : List ℕ} → o ≡ answerOf b emptyRegister first → register ≡ words
-      → answers ≡ bidAnswers b emptyRegister first → results ≡ pathAnswers b emptyRegister first → p ≡ answerOf (o .book) register second
-      → laterAnswers ≡ bidAnswers (o .book) register second → laterResults ≡ pathAnswers (o .book) register second → answerNumber (o .answer) ≡ 0 → answerNumber (p .answer) ≡ 0
-      → TwoDone b first second listed answers results laterAnswers laterResults (p .book)
-  two-done is kept filled counted is′ filled′ counted′ none fine =
-      let book-is = ap (λ (x : Outcome). x .book) is in
-      let last = second-is b first second is kept is′ in
-      let answers′ = filled′ ∙ ap₂ (λ (x : Book) (w : List ℕ). bidAnswers x w second) book-is kept in
-      let results′ = counted′ ∙ ap₂ (λ (x : Book) (w : List ℕ). pathAnswers x w second) book-is kept in
-      rw (filled, counted, answers′, results′, last)
-      (both-done (ap (λ (x : Outcome). answerNumber (x .answer)) (sym is) ∙ none) (ap (λ (x : Outcome). answerNumber (x .answer)) (sym last) ∙ fine))
+  -- the second call is the rule's second round
+  pub second-is : {o p : Outcome} {register : List ℕ} → o ≡ answerOf b emptyRegister first → register ≡ words → p ≡ answerOf (o .book) register second → p ≡ later
+  second-is is kept e = e ∙ ap₂ (λ (x : Book) (w : List ℕ). answerOf x w second) (ap (λ (x : Outcome). x .book) is) kept
+
+  module _ (listed : List ℕ) where
+    two-output : outputFrom (answered b) listed (first ∷ second ∷ []) ≡ ended listed (unlessStopped firstNumber one two)
+    unfolding outputFrom sheetRound
+    two-output = refl
+
+    pub first-refused : {n : ℕ} → n ≡ firstNumber → (n ≡ 0 → ⊥) → outputFrom (answered b) listed (first ∷ second ∷ []) ≡ refusedText n
+    unfolding sheetRound
+    first-refused is some =
+        let refused : firstNumber ≡ 0 → ⊥ = λ none. some (is ∙ none) in
+        two-output ∙ ap (ended listed) (stopped firstNumber one two refused) ∙ written-refused firstNumber listed one refused ∙ ap refusedText (sym is)
+
+    module _ (none : firstNumber ≡ 0) where
+      goes : outputFrom (answered b) listed (first ∷ second ∷ []) ≡ ended listed two
+      goes = two-output ∙ ap (ended listed) (goes-on firstNumber one two none)
+
+      pub second-refused : {n : ℕ} → n ≡ laterNumber → (n ≡ 0 → ⊥) → outputFrom (answered b) listed (first ∷ second ∷ []) ≡ refusedText n
+      unfolding sheetRound
+      second-refused is some = goes ∙ written-refused laterNumber listed two (λ fine. some (is ∙ fine)) ∙ ap refusedText (sym is)
+
+      both-answered : laterNumber ≡ 0 → outputFrom (answered b) listed (first ∷ second ∷ []) ≡ awardText rounds (later .book) listed
+      unfolding sheetRound
+      both-answered fine = goes ∙ written-answered laterNumber listed two fine
+
+    module _ (state : SoundState b emptyRegister) (few : length listed ≤ bidderLimit) (all : every isBidder listed ≡ true) where
+      module _ (none : firstNumber ≡ 0) (fine : laterNumber ≡ 0) where
+        between : SoundState book words
+        between = state-after b emptyRegister first state none
+
+        same : later .book .«path_count» ≡ book .«path_count»
+        same = paths-same book words second between fine
+
+        first-sizes : RoundSizes (later .book .«path_count») (madeBy b emptyRegister first)
+        first-sizes =
+            subst (λ (n : ℕ). RoundSizes n (madeBy b emptyRegister first)) (sym (same ∙ paths-same b emptyRegister first state none))
+            (sizes-after b emptyRegister first state none)
+
+        second-sizes : RoundSizes (later .book .«path_count») (madeBy book words second)
+        second-sizes = subst (λ (n : ℕ). RoundSizes n (madeBy book words second)) (sym same) (sizes-after book words second between fine)
+
+        both-done : TwoDone b first second listed (bidAnswers b emptyRegister first) (pathAnswers b emptyRegister first) (bidAnswers book words second) (pathAnswers book words second) (later .book)
+        both-done =
+            record {
+              lists = lists-are b emptyRegister first state none;
+              later-lists = lists-are book words second between fine;
+              paths = paths-within book words second listed between fine few all;
+              fits =
+                  award-fits rounds (later .book) listed (omega arith) (first-sizes, (second-sizes, tt))
+                  (state-after book words second between fine .sound) few all;
+              output = both-answered none fine;
+            }
+
+      -- the same for the outcomes and the lists that the rounds gave
+      pub two-done :
+          {o p : Outcome} {register answers results laterAnswers laterResults : List ℕ} → o ≡ answerOf b emptyRegister first → register ≡ words
+          → answers ≡ bidAnswers b emptyRegister first → results ≡ pathAnswers b emptyRegister first → p ≡ answerOf (o .book) register second
+          → laterAnswers ≡ bidAnswers (o .book) register second → laterResults ≡ pathAnswers (o .book) register second
+          → answerNumber (o .answer) ≡ 0 → answerNumber (p .answer) ≡ 0 → TwoDone b first second listed answers results laterAnswers laterResults (p .book)
+      two-done is kept filled counted is′ filled′ counted′ none fine =
+          let book-is = ap (λ (x : Outcome). x .book) is in
+          let last = second-is is kept is′ in
+          let answers′ = filled′ ∙ ap₂ (λ (x : Book) (w : List ℕ). bidAnswers x w second) book-is kept in
+          let results′ = counted′ ∙ ap₂ (λ (x : Book) (w : List ℕ). pathAnswers x w second) book-is kept in
+          rw (filled, counted, answers′, results′, last)
+          (both-done (ap (λ (x : Outcome). answerNumber (x .answer)) (sym is) ∙ none) (ap (λ (x : Outcome). answerNumber (x .answer)) (sym last) ∙ fine))

@@ -7,8 +7,8 @@ use native.Mathlib.Omega.{arith}
 use lib.ListN.{length, getD, drop, length-drop, drop-of-length-le}
 use lib.Seq.{drop-cons}
 use Rattle.text_numbers.specs.Decimal.{decimal}
-use Rattle.text_fields.specs.Fields.{space, newline, numbersLine, fieldText, numbersText}
-use Rattle.text_fields.proofs.FieldLaws.{text-cons, line-text}
+use Rattle.text_fields.specs.Fields.{space, fieldText, numbersText}
+use Rattle.text_fields.proofs.FieldLaws.{text-cons}
 
 -- the number at a place, and those after it
 pub from-here : (ns : List ℕ) (i : ℕ) → i < length ns → drop i ns ≡ getD ns i 0 ∷ drop (i + 1) ns
@@ -34,7 +34,3 @@ field-piece field stop more = sym (append-assoc field (stop ∷ []) more)
 -- three numbers at the front of a line, and what follows
 pub three-pieces : (a b c : ℕ) (more : List ℕ) → decimal a ++ (space ∷ (decimal b ++ (space ∷ (decimal c ++ (space ∷ more))))) ≡ numbersText space (a ∷ b ∷ c ∷ []) ++ more
 three-pieces a b c more = simp append-assoc
-
--- a line of numbers alone
-pub line-alone : (n : ℕ) (ns : List ℕ) → numbersLine (n ∷ ns) ≡ numbersText newline (n ∷ ns) ++ []
-line-alone n ns = sym (append-nil (numbersText newline (n ∷ ns)) ∙ line-text n ns)

@@ -22,33 +22,28 @@ module _ (c : tie.After-number) where
   first-is : c .number .result ≡ firstNumber (s .args .book) (s .args .bids .now) (s .args .later .now)
   first-is = c .number .ensures ∙ ap (λ (o : Outcome). answerNumber (o .answer)) (round .round-of .ensures .0)
 
--- after the second
-module _ (c : tie.After-number2) where
-  abbrev round2 : tie.After-round-of2
-  round2 = c .before .before .before .before
-
-  abbrev first : tie.Else1
-  first = round2 .before .before .before .before
-
 -- both were answered
 module _ (c : tie.Else2) where
-  abbrev one : tie.After-round-of
-  one = round (first (c .before) .before)
-
   abbrev two : tie.After-round-of2
-  two = round2 (c .before)
+  two = c .before .before .before .before .before
+
+  abbrev first : tie.Else1
+  first = two .before .before .before .before
+
+  abbrev one : tie.After-round-of
+  one = round (first .before)
 
   abbrev start : tie.Start
-  start = s (first (c .before) .before)
+  start = s (first .before)
 
   done :
       TwoDone (start .args .book) (start .args .bids .now) (start .args .later .now) (start .args .listed .now) (one .round-of .last .1 .1 .1 .0) (one .round-of .last .1 .1 .1 .1 .0)
       (two .round-of2 .last .1 .1 .1 .0) (two .round-of2 .last .1 .1 .1 .1 .0) (two .round-of2 .result .book)
   done =
-      two-done (start .args .book) (start .args .bids .now) (start .args .later .now) (start .args .listed .now) (start .pre .0) (start .pre .1 .1 .0) (start .pre .1 .0)
-      (one .round-of .ensures .0) (one .round-of .ensures .1 .0) (one .round-of .ensures .1 .1 .0) (one .round-of .ensures .1 .1 .1)
-      (two .round-of2 .ensures .0) (two .round-of2 .ensures .1 .1 .0) (two .round-of2 .ensures .1 .1 .1)
-      (sym (first (c .before) .before .number .ensures) ∙ first (c .before) .if1 .left) (sym (c .before .number2 .ensures) ∙ c .if2 .left)
+      let e = one .round-of .ensures in
+      let f = two .round-of2 .ensures in
+      two-done (start .args .book) (start .args .bids .now) (start .args .later .now) (start .args .listed .now) (start .pre .0) (start .pre .1 .1 .0) (start .pre .1 .0) (e .0) (e .1 .0)
+      (e .1 .1 .0) (e .1 .1 .1) (f .0) (f .1 .1 .0) (f .1 .1 .1) (sym (first .before .number .ensures) ∙ first .if1 .left) (sym (c .before .number2 .ensures) ∙ c .if2 .left)
 
 refused-requires : tie.Need-refused-requires
 refused-requires c κs = s (c .before .before) .pre .1 .1 .1
@@ -61,18 +56,18 @@ returns c =
     put-is (first-refused (a .book) (a .bids .now) (a .later .now) (a .listed .now) (first-is n) (then .if1 .taken)) (c .before .before .refused .ensures)
 
 refused-requires-2 : tie.Need-refused-requires-2
-refused-requires-2 c κs = s (first (c .before .before) .before) .pre .1 .1 .1
+refused-requires-2 c κs = s (c .before .before .before .before .before .before .before .before .before .before .before) .pre .1 .1 .1
 
 returns-2 : tie.Need-returns-2
 returns-2 c =
     let then = c .before .before .before .before in
-    let n = then .before in
-    let f = first n in
-    let a = s (f .before) .args in
-    let e = round (f .before) .round-of .ensures in
-    let last = second-is (a .book) (a .bids .now) (a .later .now) (e .0) (e .1 .0) (round2 n .round-of2 .ensures .0) in
-    let is = n .number2 .ensures ∙ ap (λ (o : Outcome). answerNumber (o .answer)) last in
-    put-is (second-refused (a .book) (a .bids .now) (a .later .now) (a .listed .now) (sym (first-is (f .before)) ∙ f .if1 .left) is (then .if2 .taken))
+    let two = then .before .before .before .before .before in
+    let first = two .before .before .before .before in
+    let a = s (first .before) .args in
+    let e = round (first .before) .round-of .ensures in
+    let last = second-is (a .book) (a .bids .now) (a .later .now) (e .0) (e .1 .0) (two .round-of2 .ensures .0) in
+    let is = then .before .number2 .ensures ∙ ap (λ (o : Outcome). answerNumber (o .answer)) last in
+    put-is (second-refused (a .book) (a .bids .now) (a .later .now) (a .listed .now) (sym (first-is (first .before)) ∙ first .if1 .left) is (then .if2 .taken))
     (c .before .before .refused2 .ensures)
 
 put-two-requires : tie.Need-put-two-requires

@@ -10,20 +10,13 @@ use Rattle.sheet_rounds.proofs.RoundDone.{one-refused, OneDone, one-don
 use Rattle.sheet_rounds.proofs.short_output.Statement.{statement}
 use Rattle.sheet_rounds.proofs.short_output.Tie as tie
 
-module _ (c : tie.After-number) where
-  abbrev round : tie.After-round-of
-  round = c .before .before .before .before
-
-  abbrev s : tie.Start
-  s = round .before .before .before .before .before .before .before
-
 -- the round was answered
 module _ (c : tie.Else1) where
   abbrev r : tie.After-round-of
-  r = round (c .before)
+  r = c .before .before .before .before .before
 
   abbrev start : tie.Start
-  start = s (c .before)
+  start = r .before .before .before .before .before .before .before
 
   done : OneDone (start .args .book) (start .args .bids .now) (start .args .listed .now) (r .round-of .last .1 .1 .1 .0) (r .round-of .last .1 .1 .1 .1 .0) (r .round-of .result .book)
   done =
@@ -31,14 +24,14 @@ module _ (c : tie.Else1) where
       (r .round-of .ensures .1 .1 .0) (r .round-of .ensures .1 .1 .1) (sym (c .before .number .ensures) ∙ c .if1 .left)
 
 refused-requires : tie.Need-refused-requires
-refused-requires c κs = s (c .before .before) .pre .1 .1 .1
+refused-requires c κs = c .before .before .before .before .before .before .before .before .before .before .before .before .before .pre .1 .1 .1
 
 returns : tie.Need-returns
 returns c =
     let then = c .before .before .before .before in
-    let n = then .before in
-    let a = s n .args in
-    let is = n .number .ensures ∙ ap (λ (o : Outcome). answerNumber (o .answer)) (round n .round-of .ensures .0) in
+    let r = then .before .before .before .before .before in
+    let a = r .before .before .before .before .before .before .before .args in
+    let is = then .before .number .ensures ∙ ap (λ (o : Outcome). answerNumber (o .answer)) (r .round-of .ensures .0) in
     put-is (one-refused (a .book) (a .bids .now) (a .listed .now) is (then .if1 .taken)) (c .before .before .refused .ensures)
 
 put-one-requires : tie.Need-put-one-requires

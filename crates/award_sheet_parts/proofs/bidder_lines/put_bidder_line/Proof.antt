@@ -1,4 +1,5 @@
--- One call writes the whole line: `line-text` says that the line of the six numbers is what `put_numbers` writes of them.
+-- One call writes the whole line: `line-text` says that the line of the six numbers is what `put_numbers` writes of
+-- them.
 use borrow.Author.Needs.{needs}
 use native.Mathlib.Omega.{arith}
 use mathlib.Core.Path.{_≡_, sym, ap}

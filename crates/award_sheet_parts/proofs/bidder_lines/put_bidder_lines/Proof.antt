@@ -1,11 +1,10 @@
 -- The invariant: the lines of the bidders before `i` are written, and those from `i` on are still to come. Each turn
 -- splits off one line (`bidders-next`); each number listed is a bidder's (`every-within`), so the book has the bidder.
 use borrow.Author.Needs.{needs}
-use mathlib.Core.Path.{_≡_, refl, sym, _∙_, ap}
+use mathlib.Core.Path.{_≡_, refl}
 use mathlib.Core.List.{List, _++_}
 use Prim.Native.Nat.{ℕ, _+_, _-_, _≤_}
 use lib.ListN.{length, getD, drop}
-use Rattle.market.specs.declared.book.Bidder.{Bidder}
 use Rattle.market.specs.Limits.{bidderLimit}
 use Rattle.market.proofs.Every.{every-within}
 use borrow.Author.Tests.{ltb-true}
@@ -26,20 +25,17 @@ module _ (c : tie.After-bidder Inv-loop μ-loop) where
   abbrev s : tie.Start Inv-loop μ-loop
   s = c .before .before .before .before .before .before .before
 
-  abbrev i : ℕ
-  i = c .before .before .before .before .loop .i
+  abbrev at : tie.At-loop Inv-loop μ-loop
+  at = c .before .before .before .before
 
-  -- the line of the bidder `x`
-  abbrev mine : Bidder → List ℕ
-  mine x = awardBidderLine (getD (s .args .listed .now) i 0) x
+  abbrev mine : List ℕ
+  mine = awardBidderLine (getD (s .args .listed .now) (at .loop .i) 0) (c .bidder .result)
 
   abbrev rest : List ℕ
-  rest = awardBidderLines (s .args .book) (drop (i + 1) (s .args .listed .now))
+  rest = awardBidderLines (s .args .book) (drop (at .loop .i + 1) (s .args .listed .now))
 
-  next : awardBidderLines (s .args .book) (drop i (s .args .listed .now)) ≡ mine (c .bidder .result) ++ rest
-  next =
-      bidders-next (s .args .book) (s .args .listed .now) i (c .before .before .before .loop-test .taken)
-      ∙ sym (ap (λ (x : Bidder). mine x ++ rest) (c .bidder .ensures))
+  next : awardBidderLines (s .args .book) (drop (at .loop .i) (s .args .listed .now)) ≡ mine ++ rest
+  next = bidders-next (s .args .book) (s .args .listed .now) (at .loop .i) (c .bidder .ensures) (c .before .before .before .loop-test .taken)
 
 loop-holds : tie.Need-loop-holds Inv-loop μ-loop
 loop-holds c = (search needs, written-from refl (c .before .before .pre .1))
@@ -52,13 +48,13 @@ bidder-requires c κs =
     ltb-true (getD l i 0) bidderLimit (every-within isBidder l i 0 (c .before .before .loop-test .taken) (start .pre .0))
 
 put-bidder-line-requires : tie.Need-put-bidder-line-requires Inv-loop μ-loop
-put-bidder-line-requires c κs = written-fits (c .before .before .before .before .loop .inv .1) (mine c (c .bidder .result)) (rest c) (next c)
+put-bidder-line-requires c κs = written-fits (at c .loop .inv .1) (mine c) (rest c) (next c)
 
 loop-again : tie.Need-loop-again Inv-loop μ-loop
 loop-again c =
     let put = c .before .before in
-    let read = put .before in
-    (search needs, written-on (read .before .before .before .before .loop .inv .1) (mine read (read .bidder .result)) (rest read) (next read) (put .put-bidder-line .ensures))
+    let row = put .before in
+    (search needs, written-on (at row .loop .inv .1) (mine row) (rest row) (next row) (put .put-bidder-line .ensures))
 
 same-length : tie.Need-same-length Inv-loop μ-loop
 same-length c = written-same (c .before .loop .inv .1)

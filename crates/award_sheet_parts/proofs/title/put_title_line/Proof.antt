@@ -1,5 +1,6 @@
 -- A line in three pieces: the words up to the release, the release with its space (`field-piece`), and the rules with
--- their edition. The first two are added by `written-next` where the one before it ends, and the last by `written-all`.
+-- their edition. Each is written where the one before it ends, the first two by `written-next`, the last by
+-- `written-all`.
 use borrow.Author.Needs.{needs}
 use mathlib.Core.Path.{refl, ap}
 use mathlib.Core.List.{List, [], _∷_, _++_}
