@@ -1,6 +1,6 @@
-// Fresh book, deposits, open: the calls of a sheet before its first round, in the order of the sheet.
+// Fresh book, deposits, open: the calls of a sheet before its first round, in the order of the sheet; and the numbers of its bidders.
 mod deposits;
-pub mod slots;
+mod slots;
 
 use market::answer::Outcome;
 use market::answer::Refusal;
@@ -8,10 +8,12 @@ use market::book::Book;
 use market::book::Kind;
 use market::book::Period;
 use market::engine::Engine;
+use sheet_form::rows::BidderLine;
 use sheet_form::rows::BidderRows;
 use sheet_form::rows::PathRows;
 ghost use mathlib.Core.Path.{_≡_};
 ghost use mathlib.Core.Bool.{true};
+ghost use mathlib.Core.List.{map};
 ghost use Prim.Native.Nat.{_≤_};
 ghost use lib.ListN.{take};
 ghost use Rattle.market.specs.Books.{every};
@@ -48,4 +50,17 @@ pub fn opened(kind: Kind, period: Period, bidders: BidderRows, paths: PathRows) 
         return funded;
     }
     open_with(funded.book, kind, period, paths)
+}
+
+// The numbers of a sheet's bidders, slot by slot.
+pub fn numbers(lines: [BidderLine; Engine::BIDDERS]) -> [u32; Engine::BIDDERS]
+    requires { ⌜ every isListed lines ≡ true ⌝ }
+    ensures { λ r. ⌜ r ≡ map (λ x. x .bidder) lines ⌝ }
+{
+    let mut numbers = [0u32; Engine::BIDDERS];
+    for i in 0..Engine::BIDDERS {
+        let number = lines[i].bidder as u32;
+        numbers[i] = number;
+    }
+    numbers
 }

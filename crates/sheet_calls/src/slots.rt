@@ -1,15 +1,12 @@
-// The routes and the quantities of a sheet's paths and the numbers of its bidders, slot by slot.
+// The routes and the quantities of a sheet's paths, slot by slot.
 use market::book::Direction;
 use market::book::Route;
 use market::engine::Engine;
-use sheet_form::rows::BidderLine;
 use sheet_form::rows::PathLine;
 ghost use mathlib.Core.Path.{_≡_};
-ghost use mathlib.Core.Bool.{true};
 ghost use mathlib.Core.List.{map};
-ghost use Rattle.market.specs.Books.{every, noRoute};
+ghost use Rattle.market.specs.Books.{noRoute};
 ghost use Rattle.sheet_calls.specs.Calls.{routeOf, quantitiesOf};
-ghost use Rattle.sheet_calls.specs.CallSlots.{isListed};
 
 // How many words the quantities of all slots take.
 pub const QUANTITIES: usize = Engine::PATHS * Engine::QUANTITY_WORDS;
@@ -59,17 +56,4 @@ pub fn quantities(lines: [PathLine; Engine::PATHS]) -> [u32; QUANTITIES]
         words[at + 3] = line.second;
     }
     words
-}
-
-// The bidders' numbers.
-pub fn numbers(lines: [BidderLine; Engine::BIDDERS]) -> [u32; Engine::BIDDERS]
-    requires { ⌜ every isListed lines ≡ true ⌝ }
-    ensures { λ r. ⌜ r ≡ map (λ x. x .bidder) lines ⌝ }
-{
-    let mut numbers = [0u32; Engine::BIDDERS];
-    for i in 0..Engine::BIDDERS {
-        let number = lines[i].bidder as u32;
-        numbers[i] = number;
-    }
-    numbers
 }

@@ -85,7 +85,7 @@ pub fn run(bytes: &[u8], found: Found, out: &mut [u8]) -> usize
     }
     let count = bidders.count;
     let lines = bidders.lines;
-    let numbers = sheet_calls::slots::numbers(lines);
+    let numbers = sheet_calls::numbers(lines);
     let listed = &numbers[..count];
     match kind {
         Kind::Short => run_short(bytes, found, start.book, listed, out),

@@ -10,8 +10,8 @@ use Rattle.sheet_form.specs.Slots.{noBidderLine}
 use Rattle.sheet_form.specs.declared.rows.BidderLine.{BidderLine}
 use Rattle.sheet_calls.proofs.DepositLaws.{line-listed}
 use Rattle.sheet_calls.proofs.SlotLaws.{FilledTo, none-filled, one-filled, every-filled}
-use Rattle.sheet_calls.proofs.slots.numbers.Statement.{statement}
-use Rattle.sheet_calls.proofs.slots.numbers.Tie as tie
+use Rattle.sheet_calls.proofs.numbers.Statement.{statement}
+use Rattle.sheet_calls.proofs.numbers.Tie as tie
 
 abbrev Inv-loop : tie.InvT-loop
 Inv-loop lines numbers₀ i₀ numbers i = FilledTo (λ (x : BidderLine). x .bidder) lines bidderLimit 0 numbers i
