@@ -3,7 +3,7 @@
 # fit the page.
 # - No file of src/ or specs/ names a file of proofs/.
 # - No name is defined in two files of specs/. One that must be is listed in BEGIN with its reason, as known["NAME"] = "why"; none is.
-# - No line of src/ is wider than 160 columns, and no line of specs/ and proofs/ wider than 200.
+# - No line of src/ and specs/ is wider than 160 columns, and no line of proofs/ wider than 200.
 set -euo pipefail
 cd "$(dirname "$0")"
 find crates -name '*.rt' -path '*/src/*' -o -name '*.antt' | LC_ALL=C sort | LC_ALL=C awk '
@@ -32,7 +32,7 @@ function defined(line,    words, n, i) {
     path = $0
     count = 0
     specs = path ~ /\/specs\//
-    width = path ~ /\.rt$/ ? 160 : 200
+    width = path ~ /\/proofs\// ? 200 : 160
     while ((getline line < path) > 0) {
         count++
         at = path ":" count

@@ -1,23 +1,35 @@
--- What is known of default's arguments where its table of refusals gives no number: the lent register is long
--- enough and sound, and the number is that of one of the book's bidders.
+-- What is known of default's arguments where its refusals do not hold.
 use mathlib.Core.Path.{_≡_, refl}
-use mathlib.Core.Bool.{not}
-use mathlib.Core.List.{List, [], _∷_}
+use mathlib.Core.Bool.{true}
+use mathlib.Core.List.{List}
 use Prim.Native.Nat.{ℕ, _<_}
-use lib.Dec.{eqb}
-use Rattle.market.proofs.Tables.{neither-holds}
-use Rattle.market.specs.Answers.{_gives_, firstOf}
-use Rattle.market.specs.Books.{bidderOf}
+use lib.Dec.{ltb}
+use borrow.Author.Tests.{not-false, ltb-true}
+use Rattle.market.proofs.Tables.{none-hold}
+use Rattle.market.specs.Answers.{firstOf}
 use Rattle.market.specs.Limits.{bidderLimit}
 use Rattle.market.specs.Sound.{soundAccount}
 use Rattle.market.specs.declared.book.Book.{Book}
-use Rattle.register.proofs.Cleared.{register-cleared}
-use Rattle.register.specs.Refusals.{registerRefusals, LentRegister}
-use Rattle.call_pay.proofs.Cleared.{number-cleared}
-use Rattle.call_default.specs.Default.{accountForfeited, defaultRefusals, defaultTable}
+use Rattle.register.specs.Refusals.{LentRegister}
+use Rattle.call_rules.proofs.Decides.{known, cleared}
+use Rattle.call_rules.specs.Steps.{refusalOf}
+use Rattle.call_default.specs.Default.{accountForfeited, defaultRefusals, default}
 
-pub default-cleared : (b : Book) (words : List ℕ) (i : ℕ) → firstOf (defaultTable b words i) ≡ 0 → LentRegister b words × (i < bidderLimit)
+-- default's own rows: the number is a bidder's, and the account has room
+pub record Defaulting (b : Book) (i : ℕ) : Type 0 where
+  pub number : i < bidderLimit
+  pub account : soundAccount (accountForfeited b i) ≡ true
+
+pub defaulting : (b : Book) (i : ℕ) → firstOf (defaultRefusals b i) ≡ 0 → Defaulting b i
+defaulting b i h =
+    let none = none-hold (defaultRefusals b i) refl h in
+    record {
+      number = ltb-true i bidderLimit (not-false (ltb i bidderLimit) (none .1 .0));
+      account = not-false (soundAccount (accountForfeited b i)) (none .1 .1 .1 .0);
+    }
+
+-- the whole table: the lent register is long enough and sound besides
+pub default-cleared : (b : Book) (words : List ℕ) (i : ℕ) → refusalOf (default i) b words ≡ 0 → LentRegister b words × (i < bidderLimit)
+unfolding default
 default-cleared b words i h =
-    let parts = neither-holds (registerRefusals b words) (defaultRefusals b i) refl h in
-    let rest = (eqb (bidderOf b i .owed .0) 0 gives 24) ∷ (not (soundAccount (accountForfeited b i)) gives 31) ∷ [] in
-    (register-cleared b words (parts .0), number-cleared b i rest (parts .1))
+    (known (default i) b words refl h, defaulting b i (cleared (default i) b words refl h .own) .number)

@@ -1,2 +1,3 @@
--- Laws about default.
+-- Laws about default: what is known where it is answered, and that its rule is lawful.
 pub mod Cleared
+pub mod DefaultLaws

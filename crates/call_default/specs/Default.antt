@@ -2,23 +2,23 @@
 -- taken from cash, then drawn on the letter, and goes to the account. Owed and hold become 0, its pending entries are removed, the
 -- others keep their order, step rises by one up to 3. The answer carries the letter draw."
 use mathlib.Core.Bool.{not}
-use mathlib.Core.List.{List, [], _∷_, _++_}
+use mathlib.Core.List.{List, [], _∷_}
 use Prim.Native.Nat.{ℕ, _+_, _-_, _/_, min}
 use lib.Dec.{ltb, eqb}
 use lib.IntN.{ℤ, pos, _+ℤ_}
 use lib.ListN.{length}
-use Rattle.market.specs.Answers.{Row, _gives_, firstOf, drawn, decided, decidedList}
+use Rattle.market.specs.Answers.{Row, _gives_, drawn}
 use Rattle.market.specs.Books.{cents, bidderOf, valueOf, heldOf, withBidder, withAccount, withEntries}
 use Rattle.market.specs.Limits.{bidderLimit, stepLimit}
 use Rattle.market.specs.Sound.{soundAccount, isIdle}
-use Rattle.market.specs.declared.answer.Outcome.{Outcome}
 use Rattle.market.specs.declared.book.Bidder.{Bidder}
 use Rattle.market.specs.declared.book.Book.{Book}
 use Rattle.market.specs.declared.book.Entry.{Entry}
 use Rattle.register.specs.Entries.{without}
-use Rattle.register.specs.Refusals.{registerRefusals, countedEntries}
-use Rattle.register.specs.Words.{entriesWritten}
 use Rattle.register.specs.declared.Removal.the-variants.{PendingOf}
+use Rattle.call_rules.specs.Money.{nothing, drawnIn}
+use Rattle.call_rules.specs.Rule.{Rule, noFronts}
+use Rattle.call_rules.specs.Rule.Register.{changed}
 
 -- "forfeit = min(cash + applied + letter, floor(value/10))"
 abbrev pub forfeitOf : Bidder → ℕ
@@ -41,10 +41,6 @@ defaultRefusals b i =
     ∷ (not (soundAccount (accountForfeited b i)) gives 31)
     ∷ []
 
--- refusals 1 and 2 come first
-abbrev pub defaultTable : Book → List ℕ → ℕ → List Row
-defaultTable b words i = registerRefusals b words ++ defaultRefusals b i
-
 -- "Applied returns to cash; .. Owed and hold become 0, .. step rises by one up to 3"
 abbrev pub defaulted : Bidder → Bidder
 defaulted x =
@@ -57,21 +53,26 @@ defaulted x =
       step = min (x .step + 1) stepLimit;
     }
 
--- "its pending entries are removed, the others keep their order"
-abbrev pub entriesAfterDefault : Book → List ℕ → ℕ → List Entry
-entriesAfterDefault b words i = without (PendingOf i) (countedEntries b words)
-
 abbrev pub bookForfeited : Book → ℕ → Book
 bookForfeited b i = withAccount (withBidder b i (defaulted (bidderOf b i))) (accountForfeited b i)
 
-abbrev pub bookDefaulted : Book → List ℕ → ℕ → Book
-bookDefaulted b words i = withEntries (bookForfeited b i) (length (entriesAfterDefault b words i))
+-- "its pending entries are removed, the others keep their order"
+abbrev pub entriesDefaulted : ℕ → List Entry → List Entry
+entriesDefaulted i es = without (PendingOf i) es
 
-unfoldable pub default : Book → List ℕ → ℕ → Outcome
-default b words i =
-    decided b (firstOf (defaultTable b words i)) (drawn (drawOf (bidderOf b i)) (bookDefaulted b words i))
-
--- the register's words after the call
-unfoldable pub defaultWords : Book → List ℕ → ℕ → List ℕ
-defaultWords b words i =
-    decidedList words (firstOf (defaultTable b words i)) (entriesWritten words (entriesAfterDefault b words i))
+-- "The answer carries the letter draw.", and that money comes in
+unfoldable pub default : ℕ → Rule
+default i =
+    record {
+      on =
+          λ b es.
+          record {
+            lent = [];
+            register = changed (entriesDefaulted i es);
+            own = defaultRefusals b i;
+            outcome = drawn (drawOf (bidderOf b i)) (withEntries (bookForfeited b i) (length (entriesDefaulted i es)));
+            fronts = noFronts;
+          };
+      into = drawnIn;
+      out = nothing;
+    }

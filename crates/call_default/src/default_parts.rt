@@ -11,7 +11,8 @@ ghost use Rattle.market.specs.Answers.{firstOf};
 ghost use Rattle.market.specs.Books.{cents};
 ghost use Rattle.market.specs.Limits.{bidderLimit, stepLimit};
 ghost use Rattle.market.specs.Sound.{soundBook, BidderBounds};
-ghost use Rattle.call_default.specs.Default.{forfeitOf, drawOf, defaultRefusals, defaultTable, defaulted, bookForfeited};
+ghost use Rattle.call_rules.specs.Steps.{refusalOf};
+ghost use Rattle.call_default.specs.Default.{forfeitOf, drawOf, defaultRefusals, default, defaulted, bookForfeited};
 
 // What a bidder forfeits: a tenth of its value, but at most its cash, applied cash and letter together.
 pub fn forfeit(bidder: Bidder) -> Cents
@@ -114,7 +115,7 @@ fn own_refusal(book: Book, bidder: u32) -> u32
 
 // The refusal of default, 0 where there is none.
 pub fn refusal(book: Book, words: &[u32], bidder: u32) -> u32
-    ensures { λ r. ⌜ r ≡ firstOf (defaultTable book (now (words .entry)) bidder) ⌝ }
+    ensures { λ r. ⌜ r ≡ refusalOf (default bidder) book (now (words .entry)) ⌝ }
 {
     let number = register_sound::refusal(book, words);
     if number != Refusal::NONE {

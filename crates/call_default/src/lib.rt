@@ -7,12 +7,13 @@ use market::answer::Refusal;
 use market::book::Book;
 use register::Removal;
 ghost use mathlib.Core.Path.{_≡_};
+ghost use Rattle.call_rules.specs.Steps.{outcomeOf, wordsAfter};
 ghost use Rattle.call_default.specs.Default as defaults;
 
 // A bidder defaults: it forfeits, and its pending entries are removed. The answer carries the draw on its letter.
 pub fn default(book: Book, words: &mut [u32], bidder: u32) -> Outcome
-    ensures outcome { λ r. ⌜ r ≡ defaults.default book (now (words .entry)) bidder ⌝ }
-    ensures words { λ r. ⌜ now (words .exit) ≡ defaults.defaultWords book (now (words .entry)) bidder ⌝ }
+    ensures outcome { λ r. ⌜ r ≡ outcomeOf (defaults.default bidder) book (now (words .entry)) ⌝ }
+    ensures words { λ r. ⌜ now (words .exit) ≡ wordsAfter (defaults.default bidder) book (now (words .entry)) ⌝ }
 {
     let number = default_parts::refusal(book, words, bidder);
     if number != Refusal::NONE {

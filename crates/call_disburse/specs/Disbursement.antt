@@ -5,17 +5,19 @@ use mathlib.Core.List.{List, [], _∷_, _++_}
 use Prim.Native.Nat.{ℕ}
 use lib.Dec.{leb, eqb}
 use lib.IntN.{ℤ, pos, _+ℤ_, _-ℤ_}
-use lib.ListN.{length, take, drop}
+use lib.ListN.{length, take}
 use lib.Signed.{leZ}
-use Rattle.market.specs.Answers.{Row, _gives_, firstOf, answered, decided, decidedList}
+use Rattle.market.specs.Answers.{Row, _gives_, answered}
 use Rattle.market.specs.Books.{withAccount}
 use Rattle.market.specs.Limits.{bidderLimit, poolLimit, reserve}
-use Rattle.market.specs.Sound.{soundBook}
-use Rattle.market.specs.declared.answer.Outcome.{Outcome}
 use Rattle.market.specs.declared.book.Book.{Book}
 use Rattle.market.specs.declared.units.Cents.{Cents}
 use Rattle.pool_columns.specs.Pools.{sharesOf, columnRefusals}
 use Rattle.pool_columns.specs.declared.Columns.{Columns}
+use Rattle.call_rules.specs.Money.{nothing}
+use Rattle.call_rules.specs.Rule.{Reply, Rule, amountsPut}
+use Rattle.call_rules.specs.Rule.Register.{unlent}
+use Rattle.lent_lists.specs.Amounts.{listed}
 use Rattle.call_disburse.specs.declared.flow.Flow.{Flow}
 use Rattle.call_disburse.specs.declared.flow.Flow.the-variants.{Out, In}
 
@@ -73,45 +75,47 @@ withinBound In after = leZ after (pos 0)
 -- ---- Refusals, in their order
 
 -- 1 "a lent buffer shorter than stated"
-abbrev pub poolListRefusals : PoolLists → List Row
-poolListRefusals l = (not (allLongEnough l) gives 1) ∷ []
+abbrev pub shortPoolLists : PoolLists → List Row
+shortPoolLists l = (not (allLongEnough l) gives 1) ∷ []
 
--- 2 the book; 32 "D outside 1 to 10^11 or its bound"
+-- 32 "D outside 1 to 10^11 or its bound"
 abbrev pub totalRefusals : Flow → Book → Cents → List Row
 totalRefusals flow b d =
-    (not (soundBook b) gives 2)
-    ∷ (eqb (d .0) 0 gives 32)
+    (eqb (d .0) 0 gives 32)
     ∷ (not (leb (d .0) poolLimit) gives 32)
     ∷ (not (withinBound flow (accountAfterFlow flow b d)) gives 32)
     ∷ []
 
-abbrev pub flowRefusals : Flow → Book → Cents → PoolLists → List Row
-flowRefusals flow b d l = poolListRefusals l ++ (totalRefusals flow b d ++ columnRefusals (d .0) (columnsOf l))
-
 -- ---- The calls
 
--- the answer, and the book after the call
-unfoldable pub outcome : Flow → Book → Cents → PoolLists → Outcome
-outcome flow b d l =
-    decided b (firstOf (flowRefusals flow b d l)) (answered (withAccount b (accountAfterFlow flow b d)))
+-- the shares are the money: they go out with a disbursement, and come in with a recovery
+abbrev pub sharesOut : Flow → Reply → ℕ
+sharesOut Out = listed
+sharesOut In = nothing
 
--- "nothing lent .. differs afterwards" where the call is refused; else all 32 shares are written, and the words after them stay
-abbrev pub sharesWritten : ℕ → List ℕ → List ℕ → List ℕ
-sharesWritten number shares before = decidedList before number (shares ++ drop bidderLimit before)
+abbrev pub sharesIn : Flow → Reply → ℕ
+sharesIn Out = nothing
+sharesIn In = listed
 
-unfoldable pub sharesAfter : Flow → Book → Cents → PoolLists → List ℕ
-sharesAfter flow b d l = sharesWritten (firstOf (flowRefusals flow b d l)) (sharesOf (d .0) (columnsOf l)) (l .shares)
+-- one rule for both directions; the columns are tested after the total
+unfoldable pub settle : Flow → Cents → PoolLists → Rule
+settle flow d l =
+    record {
+      on =
+          λ b es.
+          record {
+            lent = shortPoolLists l;
+            register = unlent;
+            own = totalRefusals flow b d ++ columnRefusals (d .0) (columnsOf l);
+            outcome = answered (withAccount b (accountAfterFlow flow b d));
+            fronts = amountsPut (sharesOf (d .0) (columnsOf l));
+          };
+      into = sharesIn flow;
+      out = sharesOut flow;
+    }
 
--- disburse: its outcome, and what the lent list of shares holds after it
-abbrev pub disburse : Book → Cents → PoolLists → Outcome
-disburse b d l = outcome Out b d l
+abbrev pub disburse : Cents → PoolLists → Rule
+disburse d l = settle Out d l
 
-abbrev pub disbursed : Book → Cents → PoolLists → List ℕ
-disbursed b d l = sharesAfter Out b d l
-
--- recover: its outcome, and what the lent list of shares holds after it
-abbrev pub recover : Book → Cents → PoolLists → Outcome
-recover b d l = outcome In b d l
-
-abbrev pub recovered : Book → Cents → PoolLists → List ℕ
-recovered b d l = sharesAfter In b d l
+abbrev pub recover : Cents → PoolLists → Rule
+recover d l = settle In d l

@@ -8,7 +8,8 @@ use market::answer::Refusal;
 use market::book::Book;
 use market::units::Cents;
 ghost use mathlib.Core.Path.{_≡_};
-ghost use Rattle.call_disburse.specs.Disbursement.{poolLists, outcome, sharesAfter};
+ghost use Rattle.call_rules.specs.Steps.{noRegister, outcomeOf, listAfter, toAmounts};
+ghost use Rattle.call_disburse.specs.Disbursement as rules;
 
 // Disburses or recovers a total.
 pub fn settle(
@@ -21,12 +22,16 @@ pub fn settle(
     interties: &[u32],
     shares: &mut [u64],
 ) -> Outcome
-    ensures { λ r. ⌜ r
-        ≡ outcome flow book total
-        (poolLists (now (provincial .entry)) (now (export .entry)) (now (meters .entry)) (now (interties .entry)) (now (shares .entry))) ⌝ }
-    ensures { λ _. ⌜ now (shares .exit)
-        ≡ sharesAfter flow book total
-        (poolLists (now (provincial .entry)) (now (export .entry)) (now (meters .entry)) (now (interties .entry)) (now (shares .entry))) ⌝ }
+    ensures outcome { λ r. ⌜ r
+        ≡ outcomeOf
+        (rules.settle flow total
+        (rules.poolLists (now (provincial .entry)) (now (export .entry)) (now (meters .entry)) (now (interties .entry)) (now (shares .entry))))
+        book noRegister ⌝ }
+    ensures shares { λ r. ⌜ now (shares .exit)
+        ≡ listAfter toAmounts
+        (rules.settle flow total
+        (rules.poolLists (now (provincial .entry)) (now (export .entry)) (now (meters .entry)) (now (interties .entry)) (now (shares .entry))))
+        book noRegister (now (shares .entry)) ⌝ }
 {
     if !columns::all_long_enough(provincial, export, meters, interties, shares) {
         return Outcome {

@@ -9,6 +9,7 @@ use market::answer::Outcome;
 use market::book::Book;
 use market::units::Cents;
 ghost use mathlib.Core.Path.{_≡_};
+ghost use Rattle.call_rules.specs.Steps.{noRegister, outcomeOf, listAfter, toAmounts};
 ghost use Rattle.call_disburse.specs.Disbursement as rules;
 
 // Takes a total out of the clearing account and shares it among the participants.
@@ -21,12 +22,16 @@ pub fn disburse(
     interties: &[u32],
     shares: &mut [u64],
 ) -> Outcome
-    ensures { λ r. ⌜ r
-        ≡ rules.disburse book total
-        (rules.poolLists (now (provincial .entry)) (now (export .entry)) (now (meters .entry)) (now (interties .entry)) (now (shares .entry))) ⌝ }
-    ensures { λ _. ⌜ now (shares .exit)
-        ≡ rules.disbursed book total
-        (rules.poolLists (now (provincial .entry)) (now (export .entry)) (now (meters .entry)) (now (interties .entry)) (now (shares .entry))) ⌝ }
+    ensures outcome { λ r. ⌜ r
+        ≡ outcomeOf
+        (rules.disburse total
+        (rules.poolLists (now (provincial .entry)) (now (export .entry)) (now (meters .entry)) (now (interties .entry)) (now (shares .entry))))
+        book noRegister ⌝ }
+    ensures shares { λ r. ⌜ now (shares .exit)
+        ≡ listAfter toAmounts
+        (rules.disburse total
+        (rules.poolLists (now (provincial .entry)) (now (export .entry)) (now (meters .entry)) (now (interties .entry)) (now (shares .entry))))
+        book noRegister (now (shares .entry)) ⌝ }
 {
     call::settle(
         Flow::Out,
@@ -50,12 +55,16 @@ pub fn recover(
     interties: &[u32],
     shares: &mut [u64],
 ) -> Outcome
-    ensures { λ r. ⌜ r
-        ≡ rules.recover book total
-        (rules.poolLists (now (provincial .entry)) (now (export .entry)) (now (meters .entry)) (now (interties .entry)) (now (shares .entry))) ⌝ }
-    ensures { λ _. ⌜ now (shares .exit)
-        ≡ rules.recovered book total
-        (rules.poolLists (now (provincial .entry)) (now (export .entry)) (now (meters .entry)) (now (interties .entry)) (now (shares .entry))) ⌝ }
+    ensures outcome { λ r. ⌜ r
+        ≡ outcomeOf
+        (rules.recover total
+        (rules.poolLists (now (provincial .entry)) (now (export .entry)) (now (meters .entry)) (now (interties .entry)) (now (shares .entry))))
+        book noRegister ⌝ }
+    ensures shares { λ r. ⌜ now (shares .exit)
+        ≡ listAfter toAmounts
+        (rules.recover total
+        (rules.poolLists (now (provincial .entry)) (now (export .entry)) (now (meters .entry)) (now (interties .entry)) (now (shares .entry))))
+        book noRegister (now (shares .entry)) ⌝ }
 {
     call::settle(
         Flow::In,

@@ -8,12 +8,13 @@ use market::units::Cents;
 use pool_columns::Columns;
 ghost use mathlib.Core.Path.{_≡_};
 ghost use mathlib.Core.Bool.{true};
-ghost use mathlib.Core.List.{_++_};
+ghost use mathlib.Core.List.{_∷_, _++_};
 ghost use Prim.Native.Nat.{_≤_};
 ghost use Rattle.market.specs.Answers.{firstOf};
 ghost use Rattle.market.specs.Books.{balance, withAccount};
 ghost use Rattle.market.specs.Limits.{poolLimit};
 ghost use Rattle.market.specs.Sound.{soundBook};
+ghost use Rattle.call_rules.specs.Rules.{unsoundBook};
 ghost use Rattle.call_disburse.specs.Disbursement.{accountAfterFlow, withinBound, totalRefusals};
 ghost use Rattle.pool_columns.specs.Pools.{columnRefusals};
 
@@ -42,7 +43,7 @@ fn within_bound(flow: Flow, after: Balance) -> bool
 
 // The refusal of the book or the total, 0 where there is none.
 fn total_refusal(flow: Flow, book: Book, total: Cents) -> u32
-    ensures { λ r. ⌜ r ≡ firstOf (totalRefusals flow book total) ⌝ }
+    ensures { λ r. ⌜ r ≡ firstOf (unsoundBook book ∷ totalRefusals flow book total) ⌝ }
 {
     if !book_sound::sound_book(book) {
         return Refusal::UNSOUND;
@@ -61,7 +62,7 @@ fn total_refusal(flow: Flow, book: Book, total: Cents) -> u32
 
 // The refusal of a call whose lists are long enough, 0 where there is none.
 pub fn refusal(flow: Flow, book: Book, total: Cents, columns: Columns) -> u32
-    ensures { λ r. ⌜ r ≡ firstOf (totalRefusals flow book total ++ columnRefusals (total .0) columns) ⌝ }
+    ensures { λ r. ⌜ r ≡ firstOf (unsoundBook book ∷ (totalRefusals flow book total ++ columnRefusals (total .0) columns)) ⌝ }
 {
     let number = total_refusal(flow, book, total);
     if number != Refusal::NONE {

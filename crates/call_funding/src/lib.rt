@@ -9,6 +9,7 @@ use market::units::Cents;
 ghost use mathlib.Core.Path.{_≡_};
 ghost use mathlib.Core.Bool.{true};
 ghost use Rattle.market.specs.Sound.{soundBook};
+ghost use Rattle.call_rules.specs.Steps.{noRegister, outcomeOf};
 ghost use Rattle.call_funding.specs.Deposit as deposits;
 ghost use Rattle.call_funding.specs.Withdraw as withdrawals;
 
@@ -21,7 +22,7 @@ pub enum Funds {
 // A deposit on a book that is known to be sound, which is not tested again.
 pub fn deposit_sound(book: Book, bidder: u32, to: Funds, amount: Cents) -> Outcome
     requires { ⌜ soundBook book ≡ true ⌝ }
-    ensures { λ r. ⌜ r ≡ deposits.deposit book bidder to amount ⌝ }
+    ensures { λ r. ⌜ r ≡ outcomeOf (deposits.deposit bidder to amount) book noRegister ⌝ }
 {
     let number = parts::deposit_refusal(book, bidder, to, amount);
     if number != Refusal::NONE {
@@ -39,7 +40,7 @@ pub fn deposit_sound(book: Book, bidder: u32, to: Funds, amount: Cents) -> Outco
 
 // A deposit of cash, or of a letter of credit.
 pub fn deposit(book: Book, bidder: u32, to: Funds, amount: Cents) -> Outcome
-    ensures { λ r. ⌜ r ≡ deposits.deposit book bidder to amount ⌝ }
+    ensures { λ r. ⌜ r ≡ outcomeOf (deposits.deposit bidder to amount) book noRegister ⌝ }
 {
     if !book_sound::sound_book(book) {
         return Outcome {
@@ -53,7 +54,7 @@ pub fn deposit(book: Book, bidder: u32, to: Funds, amount: Cents) -> Outcome
 // A withdrawal on a book that is known to be sound.
 fn withdraw_sound(book: Book, bidder: u32, from: Funds, amount: Cents) -> Outcome
     requires { ⌜ soundBook book ≡ true ⌝ }
-    ensures { λ r. ⌜ r ≡ withdrawals.withdraw book bidder from amount ⌝ }
+    ensures { λ r. ⌜ r ≡ outcomeOf (withdrawals.withdraw bidder from amount) book noRegister ⌝ }
 {
     let number = parts::withdraw_refusal(book, bidder, from, amount);
     if number != Refusal::NONE {
@@ -71,7 +72,7 @@ fn withdraw_sound(book: Book, bidder: u32, from: Funds, amount: Cents) -> Outcom
 
 // A withdrawal of cash, or of the letter less what is held of it.
 pub fn withdraw(book: Book, bidder: u32, from: Funds, amount: Cents) -> Outcome
-    ensures { λ r. ⌜ r ≡ withdrawals.withdraw book bidder from amount ⌝ }
+    ensures { λ r. ⌜ r ≡ outcomeOf (withdrawals.withdraw bidder from amount) book noRegister ⌝ }
 {
     if !book_sound::sound_book(book) {
         return Outcome {

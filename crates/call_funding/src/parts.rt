@@ -31,10 +31,9 @@ fn with_letter(bidder: Bidder, letter: Cents) -> Bidder
     next
 }
 
-// The first of the refusals that deposit and withdraw have in common, for a sound book; 0 where there is none.
-fn common_refusal(book: Book, bidder: u32, amount: Cents) -> u32
-    requires { ⌜ soundBook book ≡ true ⌝ }
-    ensures { λ r. ⌜ r ≡ firstOf (fundingRefusals book bidder amount) ⌝ }
+// The first of the refusals that deposit and withdraw have in common; 0 where there is none.
+fn common_refusal(bidder: u32, amount: Cents) -> u32
+    ensures { λ r. ⌜ r ≡ firstOf (fundingRefusals bidder amount) ⌝ }
 {
     if bidder as usize >= Engine::BIDDERS {
         return Refusal::BIDDER;
@@ -63,7 +62,7 @@ pub fn deposit_refusal(book: Book, bidder: u32, to: Funds, amount: Cents) -> u32
     requires { ⌜ soundBook book ≡ true ⌝ }
     ensures { λ r. ⌜ r ≡ firstOf (depositRefusals book bidder to amount) ⌝ }
 {
-    let number = common_refusal(book, bidder, amount);
+    let number = common_refusal(bidder, amount);
     if number != Refusal::NONE {
         return number;
     }
@@ -106,7 +105,7 @@ pub fn withdraw_refusal(book: Book, bidder: u32, from: Funds, amount: Cents) -> 
     requires { ⌜ soundBook book ≡ true ⌝ }
     ensures { λ r. ⌜ r ≡ firstOf (withdrawRefusals book bidder from amount) ⌝ }
 {
-    let number = common_refusal(book, bidder, amount);
+    let number = common_refusal(bidder, amount);
     if number != Refusal::NONE {
         return number;
     }

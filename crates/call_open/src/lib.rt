@@ -16,12 +16,14 @@ ghost use Prim.Native.Nat.{_≤_};
 ghost use lib.ListN.{length};
 ghost use Rattle.market.specs.Answers.{firstOf};
 ghost use Rattle.register.specs.Refusals.{registerRefusals};
+ghost use Rattle.market.specs.declared.book.Kind.{Kind};
+ghost use Rattle.call_rules.specs.Steps.{refusalOf, outcomeOf};
 ghost use Rattle.call_open.specs.OpenedPaths.{wordsNeeded};
 ghost use Rattle.call_open.specs.Open as rules;
 
 // The refusal of what is lent: 1 for too few quantities, 1 or 2 for the register; 0 where there is none.
 fn lent_refusal(book: Book, words: &[u32], quantities: &[u32]) -> u32
-    ensures { λ r. ⌜ r ≡ firstOf (rules.quantityListRefusals book (now (quantities .entry)) ++ registerRefusals book (now (words .entry))) ⌝ }
+    ensures { λ r. ⌜ r ≡ firstOf (rules.shortQuantities book (now (quantities .entry)) ++ registerRefusals book (now (words .entry))) ⌝ }
 {
     let count = book.path_count;
     if quantities.len() / Engine::QUANTITY_WORDS < count {
@@ -53,9 +55,9 @@ fn own_refusal(book: Book, period: Period, quantities: &[u32]) -> u32
     Refusal::NONE
 }
 
-// The refusal of open, 0 where there is none.
+// The refusal of open whatever the kind, 0 where there is none.
 fn refusal(book: Book, words: &[u32], period: Period, quantities: &[u32]) -> u32
-    ensures { λ r. ⌜ r ≡ firstOf (rules.openTable book (now (words .entry)) period (now (quantities .entry))) ⌝ }
+    ensures { λ r. ⌜ ((kind : Kind) → r ≡ refusalOf (rules.«open» kind period (now (quantities .entry))) book (now (words .entry))) ⌝ }
 {
     let number = lent_refusal(book, words, quantities);
     if number != Refusal::NONE {
@@ -66,7 +68,7 @@ fn refusal(book: Book, words: &[u32], period: Period, quantities: &[u32]) -> u32
 
 // Opens an auction for a period, with four quantities for each path: base, upper limit, and the expected capabilities A and B.
 pub fn open(book: Book, words: &[u32], kind: Kind, period: Period, quantities: &[u32]) -> Outcome
-    ensures { λ r. ⌜ r ≡ rules.«open» book (now (words .entry)) kind period (now (quantities .entry)) ⌝ }
+    ensures { λ r. ⌜ r ≡ outcomeOf (rules.«open» kind period (now (quantities .entry))) book (now (words .entry)) ⌝ }
 {
     let number = refusal(book, words, period, quantities);
     if number != Refusal::NONE {

@@ -1,36 +1,39 @@
--- What is known of a call's arguments where its table of refusals gives no number: the lent register is long enough
--- and sound, and the number is that of one of the book's bidders.
+-- What is known of pay's arguments where its refusals do not hold.
 use mathlib.Core.Path.{_≡_, refl}
-use mathlib.Core.Bool.{not}
-use mathlib.Core.List.{List, [], _∷_}
+use mathlib.Core.Bool.{true}
+use mathlib.Core.List.{List}
 use Prim.Native.Nat.{ℕ, _<_}
 use lib.Dec.{ltb, eqb}
-use borrow.Author.Tests.{not-false, ltb-true}
-use Rattle.market.proofs.Tables.{none-hold, neither-holds}
-use Rattle.market.specs.Answers.{Row, _gives_, firstOf}
-use Rattle.market.specs.Books.{bidderOf, noValue}
+use borrow.Author.Tests.{not-false, ltb-true, eqb-true}
+use Rattle.market.proofs.Tables.{none-hold}
+use Rattle.market.specs.Answers.{firstOf}
+use Rattle.market.specs.Books.{bidderOf}
 use Rattle.market.specs.Limits.{bidderLimit}
-use Rattle.market.specs.Sound.{soundAccount, isIdle}
+use Rattle.market.specs.Sound.{soundAccount}
 use Rattle.market.specs.declared.book.Book.{Book}
 use Rattle.market.specs.declared.units.Cents.{Cents}
-use Rattle.register.proofs.Cleared.{register-cleared}
-use Rattle.register.specs.Refusals.{registerRefusals, LentRegister}
-use Rattle.call_pay.specs.Pay.{accountPaid, payRefusals, payTable}
+use Rattle.register.specs.Refusals.{LentRegister}
+use Rattle.call_rules.proofs.Decides.{known, cleared}
+use Rattle.call_rules.specs.Steps.{refusalOf}
+use Rattle.call_pay.specs.Pay.{accountPaid, payRefusals, pay}
 
--- the first two rows of pay and of default: the stage, and the bidder's number
-pub number-cleared : (b : Book) (i : ℕ) (rest : List Row) → firstOf ((not (isIdle (b .stage)) gives 20) ∷ (not (ltb i bidderLimit) gives 10) ∷ rest) ≡ 0 → i < bidderLimit
-number-cleared b i rest h =
-    let rows = (not (isIdle (b .stage)) gives 20) ∷ (not (ltb i bidderLimit) gives 10) ∷ [] in
-    let none = none-hold rows refl (neither-holds rows rest refl h .0) in
-    ltb-true i bidderLimit (not-false (ltb i bidderLimit) (none .1 .0))
+-- pay's own rows: the number is a bidder's, the payment is what it owes, and the account has room
+pub record Payable (b : Book) (i : ℕ) (amount : Cents) : Type 0 where
+  pub number : i < bidderLimit
+  pub payment : amount .0 ≡ bidderOf b i .owed .0
+  pub account : soundAccount (accountPaid b i) ≡ true
 
-pub pay-cleared : (b : Book) (words : List ℕ) (i : ℕ) (amount : Cents) → firstOf (payTable b words i amount) ≡ 0 → LentRegister b words × (i < bidderLimit)
+pub payable : (b : Book) (i : ℕ) (amount : Cents) → firstOf (payRefusals b i amount) ≡ 0 → Payable b i amount
+payable b i amount h =
+    let none = none-hold (payRefusals b i amount) refl h in
+    record {
+      number = ltb-true i bidderLimit (not-false (ltb i bidderLimit) (none .1 .0));
+      payment = eqb-true (amount .0) (bidderOf b i .owed .0) (not-false (eqb (amount .0) (bidderOf b i .owed .0)) (none .1 .1 .0));
+      account = not-false (soundAccount (accountPaid b i)) (none .1 .1 .1 .1 .0);
+    }
+
+-- the whole table: the lent register is long enough and sound besides
+pub pay-cleared : (b : Book) (words : List ℕ) (i : ℕ) (amount : Cents) → refusalOf (pay i amount) b words ≡ 0 → LentRegister b words × (i < bidderLimit)
+unfolding pay
 pay-cleared b words i amount h =
-    let parts = neither-holds (registerRefusals b words) (payRefusals b i amount) refl h in
-    let rest =
-    (not (eqb (amount .0) (bidderOf b i .owed .0)) gives 13)
-    ∷ (noValue (bidderOf b i) gives 24)
-    ∷ (not (soundAccount (accountPaid b i)) gives 31)
-    ∷ []
-    in
-    (register-cleared b words (parts .0), number-cleared b i rest (parts .1))
+    (known (pay i amount) b words refl h, payable b i amount (cleared (pay i amount) b words refl h .own) .number)

@@ -1,2 +1,3 @@
--- Laws about pay.
+-- Laws about pay: what is known where it is answered, and that its rule is lawful.
 pub mod Cleared
+pub mod PayLaws

@@ -1,21 +1,21 @@
 -- Document 01, "Pay (idle): amount equals owed, 0 included. Account gains the value; applied, owed and hold become 0, its entries
 -- are issued, step falls by one if above 0."
 use mathlib.Core.Bool.{not}
-use mathlib.Core.List.{List, [], _∷_, _++_, map}
+use mathlib.Core.List.{List, [], _∷_, map}
 use Prim.Native.Nat.{ℕ, _-_}
 use lib.Dec.{ltb, eqb}
 use lib.IntN.{ℤ, pos, _+ℤ_}
-use Rattle.market.specs.Answers.{Row, _gives_, firstOf, answered, decided, decidedList}
+use Rattle.market.specs.Answers.{Row, _gives_, answered}
 use Rattle.market.specs.Books.{cents, bidderOf, valueOf, noValue, withBidder, withAccount}
 use Rattle.market.specs.Limits.{bidderLimit}
 use Rattle.market.specs.Sound.{soundAccount, isIdle}
-use Rattle.market.specs.declared.answer.Outcome.{Outcome}
 use Rattle.market.specs.declared.book.Bidder.{Bidder}
 use Rattle.market.specs.declared.book.Book.{Book}
 use Rattle.market.specs.declared.units.Cents.{Cents}
 use Rattle.register.specs.Entries.{issuedTo}
-use Rattle.register.specs.Refusals.{registerRefusals, countedEntries}
-use Rattle.register.specs.Words.{entriesWritten}
+use Rattle.call_rules.specs.Money.{ifAnswered, nothing}
+use Rattle.call_rules.specs.Rule.{Rule, noFronts}
+use Rattle.call_rules.specs.Rule.Register.{changed}
 
 -- "Account gains the value"
 abbrev pub accountPaid : Book → ℕ → ℤ
@@ -31,10 +31,6 @@ payRefusals b i amount =
     ∷ (not (soundAccount (accountPaid b i)) gives 31)
     ∷ []
 
--- refusals 1 and 2 come first
-abbrev pub payTable : Book → List ℕ → ℕ → Cents → List Row
-payTable b words i amount = registerRefusals b words ++ payRefusals b i amount
-
 -- "applied, owed and hold become 0, .. step falls by one if above 0"
 abbrev pub paid : Bidder → Bidder
 paid x =
@@ -43,10 +39,19 @@ paid x =
 abbrev pub bookPaid : Book → ℕ → Book
 bookPaid b i = withAccount (withBidder b i (paid (bidderOf b i))) (accountPaid b i)
 
-unfoldable pub pay : Book → List ℕ → ℕ → Cents → Outcome
-pay b words i amount = decided b (firstOf (payTable b words i amount)) (answered (bookPaid b i))
-
--- the register's words after the call: "its entries are issued"
-unfoldable pub payWords : Book → List ℕ → ℕ → Cents → List ℕ
-payWords b words i amount =
-    decidedList words (firstOf (payTable b words i amount)) (entriesWritten words (map (issuedTo i) (countedEntries b words)))
+-- "its entries are issued"; the payment is new money
+unfoldable pub pay : ℕ → Cents → Rule
+pay i amount =
+    record {
+      on =
+          λ b es.
+          record {
+            lent = [];
+            register = changed (map (issuedTo i) es);
+            own = payRefusals b i amount;
+            outcome = answered (bookPaid b i);
+            fronts = noFronts;
+          };
+      into = ifAnswered (amount .0);
+      out = nothing;
+    }

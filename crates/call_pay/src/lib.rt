@@ -10,6 +10,7 @@ use market::units::Cents;
 ghost use mathlib.Core.Path.{_≡_};
 ghost use Rattle.market.specs.Sound.{BidderBounds};
 ghost use Rattle.market.specs.Books.{cents, valueOf};
+ghost use Rattle.call_rules.specs.Steps.{outcomeOf, wordsAfter};
 ghost use Rattle.call_pay.specs.Pay as payments;
 
 // A bidder's value.
@@ -24,8 +25,8 @@ pub fn value(bidder: Bidder) -> Cents
 
 // A bidder pays what it owes, with new money; its entries are issued.
 pub fn pay(book: Book, words: &mut [u32], bidder: u32, amount: Cents) -> Outcome
-    ensures outcome { λ r. ⌜ r ≡ payments.pay book (now (words .entry)) bidder amount ⌝ }
-    ensures words { λ r. ⌜ now (words .exit) ≡ payments.payWords book (now (words .entry)) bidder amount ⌝ }
+    ensures outcome { λ r. ⌜ r ≡ outcomeOf (payments.pay bidder amount) book (now (words .entry)) ⌝ }
+    ensures words { λ r. ⌜ now (words .exit) ≡ wordsAfter (payments.pay bidder amount) book (now (words .entry)) ⌝ }
 {
     let number = pay_parts::refusal(book, words, bidder, amount);
     if number != Refusal::NONE {

@@ -10,7 +10,8 @@ ghost use Prim.Native.Nat.{_-_, _<_};
 ghost use Rattle.market.specs.Answers.{firstOf};
 ghost use Rattle.market.specs.Limits.{bidderLimit};
 ghost use Rattle.market.specs.Sound.{soundBook};
-ghost use Rattle.call_pay.specs.Pay.{payRefusals, payTable, paid, bookPaid};
+ghost use Rattle.call_rules.specs.Steps.{refusalOf};
+ghost use Rattle.call_pay.specs.Pay.{payRefusals, paid, bookPaid, pay};
 
 // The first of pay's refusals after 1 and 2; 0 where there is none.
 fn own_refusal(book: Book, bidder: u32, amount: Cents) -> u32
@@ -41,7 +42,7 @@ fn own_refusal(book: Book, bidder: u32, amount: Cents) -> u32
 
 // The refusal of pay, 0 where there is none.
 pub fn refusal(book: Book, words: &[u32], bidder: u32, amount: Cents) -> u32
-    ensures { λ r. ⌜ r ≡ firstOf (payTable book (now (words .entry)) bidder amount) ⌝ }
+    ensures { λ r. ⌜ r ≡ refusalOf (pay bidder amount) book (now (words .entry)) ⌝ }
 {
     let number = register_sound::refusal(book, words);
     if number != Refusal::NONE {

@@ -1,6 +1,6 @@
 -- What is known where payout's refusals do not hold, and what its table gives, part by part.
 use mathlib.Core.Path.{_≡_, refl, sym, _∙_}
-use mathlib.Core.Bool.{Bool, true, not}
+use mathlib.Core.Bool.{Bool, true}
 use mathlib.Core.List.{List, _++_}
 use Prim.Native.Nat.{ℕ, _≤_}
 use lib.Dec.{leb}
@@ -8,13 +8,14 @@ use lib.IntN.{ℤ}
 use lib.ListN.{length}
 use borrow.Author.Tests.{not-false, leb-true}
 use Rattle.market.proofs.Tables.{none-hold, neither-holds, first-stands, second-decides}
-use Rattle.market.specs.Answers.{_gives_, firstOf}
+use Rattle.market.specs.Answers.{firstOf}
 use Rattle.market.specs.Limits.{bidderLimit, zones}
 use Rattle.market.specs.declared.book.Book.{Book}
 use Rattle.market.specs.declared.units.Day.{Day}
 use Rattle.register.proofs.Cleared.{register-cleared}
 use Rattle.register.specs.Refusals.{registerRefusals, countedEntries, LentRegister}
-use Rattle.call_payout.specs.Payout.{soundPrices, payoutListRefusals, hourRefusals, accountRefusals, payoutTable}
+use Rattle.call_rules.specs.Steps.{refusalOf}
+use Rattle.call_payout.specs.Payout.{soundPrices, shortPayoutLists, hourRefusals, accountRefusals, payout}
 
 -- the lent lists are long enough, and the lent register is long enough and sound
 pub record AllLent (b : Book) (words : List ℕ) (prices : List ℤ) (amounts : List ℕ) : Type 0 where
@@ -23,12 +24,12 @@ pub record AllLent (b : Book) (words : List ℕ) (prices : List ℤ) (amounts : 
   pub register : LentRegister b words
 
 module _ (b : Book) (words : List ℕ) (day : Day) (failed : Bool) (prices : List ℤ) (amounts : List ℕ) where
-  pub lent-cleared : firstOf (payoutListRefusals prices amounts ++ registerRefusals b words) ≡ 0 → AllLent b words prices amounts
+  pub lent-cleared : firstOf (shortPayoutLists prices amounts ++ registerRefusals b words) ≡ 0 → AllLent b words prices amounts
   lent-cleared h =
-      let parts = neither-holds (payoutListRefusals prices amounts) (registerRefusals b words) refl h in
+      let parts = neither-holds (shortPayoutLists prices amounts) (registerRefusals b words) refl h in
       let first = leb zones (length prices) in
       let second = leb bidderLimit (length amounts) in
-      let none = none-hold (payoutListRefusals prices amounts) refl (parts .0) in
+      let none = none-hold (shortPayoutLists prices amounts) refl (parts .0) in
       record {
         prices-long = leb-true zones (length prices) (not-false first (none .0));
         amounts-long = leb-true bidderLimit (length amounts) (not-false second (none .1 .0));
@@ -42,25 +43,27 @@ module _ (b : Book) (words : List ℕ) (day : Day) (failed : Bool) (prices : Lis
 
   -- which part of the table decides
   pub lent-decides :
-      (firstOf (payoutListRefusals prices amounts ++ registerRefusals b words) ≡ 0 → ⊥)
-      → firstOf (payoutListRefusals prices amounts ++ registerRefusals b words) ≡ firstOf (payoutTable b words day failed prices amounts)
+      (firstOf (shortPayoutLists prices amounts ++ registerRefusals b words) ≡ 0 → ⊥)
+      → firstOf (shortPayoutLists prices amounts ++ registerRefusals b words) ≡ refusalOf (payout day failed prices amounts) b words
+  unfolding refusalOf payout
   lent-decides h =
       sym
-      (first-stands (payoutListRefusals prices amounts ++ registerRefusals b words)
+      (first-stands (shortPayoutLists prices amounts ++ registerRefusals b words)
       (hourRefusals day failed prices ++ accountRefusals b (countedEntries b words) day failed prices) h)
 
-  module _ (none : firstOf (payoutListRefusals prices amounts ++ registerRefusals b words) ≡ 0) where
-    rest : firstOf (payoutTable b words day failed prices amounts) ≡ firstOf (hourRefusals day failed prices ++ accountRefusals b (countedEntries b words) day failed prices)
+  module _ (none : firstOf (shortPayoutLists prices amounts ++ registerRefusals b words) ≡ 0) where
+    rest : refusalOf (payout day failed prices amounts) b words ≡ firstOf (hourRefusals day failed prices ++ accountRefusals b (countedEntries b words) day failed prices)
+    unfolding refusalOf payout
     rest =
-        second-decides (payoutListRefusals prices amounts ++ registerRefusals b words)
+        second-decides (shortPayoutLists prices amounts ++ registerRefusals b words)
         (hourRefusals day failed prices ++ accountRefusals b (countedEntries b words) day failed prices) refl none
 
-    pub hour-decides : (firstOf (hourRefusals day failed prices) ≡ 0 → ⊥) → firstOf (hourRefusals day failed prices) ≡ firstOf (payoutTable b words day failed prices amounts)
+    pub hour-decides : (firstOf (hourRefusals day failed prices) ≡ 0 → ⊥) → firstOf (hourRefusals day failed prices) ≡ refusalOf (payout day failed prices amounts) b words
     hour-decides h =
         sym (rest ∙ first-stands (hourRefusals day failed prices) (accountRefusals b (countedEntries b words) day failed prices) h)
 
     pub account-decides :
         firstOf (hourRefusals day failed prices) ≡ 0
-        → firstOf (accountRefusals b (countedEntries b words) day failed prices) ≡ firstOf (payoutTable b words day failed prices amounts)
+        → firstOf (accountRefusals b (countedEntries b words) day failed prices) ≡ refusalOf (payout day failed prices amounts) b words
     account-decides h =
         sym (rest ∙ second-decides (hourRefusals day failed prices) (accountRefusals b (countedEntries b words) day failed prices) refl h)

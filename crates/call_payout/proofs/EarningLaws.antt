@@ -10,10 +10,10 @@ use lib.ListN.{length, getD, take, replicate, length-set, length-take}
 use lib.Seq.{getD-take}
 use Rattle.market.proofs.Every.{every-at-any}
 use Rattle.market.proofs.Filled.{filled}
-use Rattle.market.proofs.SoundLaws.{sound-parts, path-bounds, no-path-sound}
-use Rattle.market.specs.Books.{noPath, credit}
+use Rattle.market.proofs.SoundLaws.{zone-within}
+use Rattle.market.specs.Books.{credit}
 use Rattle.market.specs.Limits.{zoneLimit, quantityLimit, zones, zonePriceLimit}
-use Rattle.market.specs.Sound.{roundOf, soundPath, soundBook}
+use Rattle.market.specs.Sound.{soundBook}
 use Rattle.market.specs.declared.book.Book.{Book}
 use Rattle.market.specs.declared.book.Direction.{Direction}
 use Rattle.market.specs.declared.book.Direction.the-variants.{Export, Import}
@@ -28,15 +28,6 @@ use Rattle.register.specs.Words.{entryAt, entriesOf}
 use Rattle.pool_sharing.proofs.Totals.{total-set}
 use Rattle.pool_sharing.specs.Sharing.{total}
 use Rattle.call_payout.specs.Payout.{rateOn, pathOf, credited, soundPrices}
-
--- a path of a sound book leads to a zone
-pub zone-within : (b : Book) (i : ℕ) → soundBook b ≡ true → i < b .«path_count» → pathOf b i .zone ≤ zoneLimit
-zone-within b i h below =
-    let round = roundOf (b .stage) in
-    let p = getD (take (b .«path_count») (b .paths)) i noPath in
-    let all = every-at-any (soundPath round) (take (b .«path_count») (b .paths)) i noPath (sound-parts b h .paths) (no-path-sound round) in
-    let is : p ≡ pathOf b i = getD-take (b .«path_count») (b .paths) i noPath below in
-    rw is at (path-bounds round p all .zone)
 
 -- the price that an entry sees is sound
 pub hour-sound : (failed : Bool) (prices : List ℤ) (path : Path) → soundPrices failed prices ≡ true → path .zone ≤ zoneLimit → soundHour (hourAt failed prices path) ≡ true

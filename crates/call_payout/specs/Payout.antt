@@ -4,19 +4,21 @@ use mathlib.Core.List.{List, [], _∷_, _++_}
 use Prim.Native.Nat.{ℕ, _*_}
 use lib.Dec.{leb, eqb}
 use lib.IntN.{ℤ, pos, _-ℤ_}
-use lib.ListN.{length, getD, take, drop, replicate}
-use Rattle.market.specs.Answers.{Row, _gives_, firstOf, answered, decided, decidedList}
+use lib.ListN.{length, getD, take, replicate}
+use Rattle.market.specs.Answers.{Row, _gives_, answered}
 use Rattle.market.specs.Books.{every, noPath, credit, withAccount}
 use Rattle.market.specs.Limits.{bidderLimit, issued, dayLimit, zones}
 use Rattle.market.specs.Sound.{soundAccount}
-use Rattle.market.specs.declared.answer.Outcome.{Outcome}
 use Rattle.market.specs.declared.book.Book.{Book}
 use Rattle.market.specs.declared.book.Entry.{Entry}
 use Rattle.market.specs.declared.book.Path.{Path}
 use Rattle.market.specs.declared.units.Day.{Day}
 use Rattle.call_payout_hour.specs.Hours.{rate, hourAt, soundZonePrice}
-use Rattle.register.specs.Refusals.{registerRefusals, countedEntries}
 use Rattle.pool_sharing.specs.Sharing.{total}
+use Rattle.call_rules.specs.Money.{nothing}
+use Rattle.call_rules.specs.Rule.{Rule, amountsPut}
+use Rattle.call_rules.specs.Rule.Register.{read}
+use Rattle.lent_lists.specs.Amounts.{listed}
 
 -- what one MW earns in the hour on a path
 abbrev pub rateOn : Bool → List ℤ → Path → ℕ
@@ -54,8 +56,8 @@ soundPrices true prices = true
 soundPrices false prices = every soundZonePrice (take zones prices)
 
 -- 1 "a lent buffer shorter than stated": the 16 prices, and the 32 amounts
-abbrev pub payoutListRefusals : List ℤ → List ℕ → List Row
-payoutListRefusals prices amounts =
+abbrev pub shortPayoutLists : List ℤ → List ℕ → List Row
+shortPayoutLists prices amounts =
     (not (leb zones (length prices)) gives 1) ∷ (not (leb bidderLimit (length amounts)) gives 1) ∷ []
 
 -- 21 "a day over 65,535"; 30 "bad zone price"
@@ -68,19 +70,19 @@ abbrev pub accountRefusals : Book → List Entry → Day → Bool → List ℤ �
 accountRefusals b es day failed prices =
     (not (soundAccount (accountPaying b day failed prices es)) gives 31) ∷ []
 
--- the whole table, in the paper's order: 1, 2, 21, 30, 31
-abbrev pub payoutTable : Book → List ℕ → Day → Bool → List ℤ → List ℕ → List Row
-payoutTable b words day failed prices amounts =
-    (payoutListRefusals prices amounts ++ registerRefusals b words)
-    ++ (hourRefusals day failed prices ++ accountRefusals b (countedEntries b words) day failed prices)
-
-unfoldable pub payout : Book → List ℕ → Day → Bool → List ℤ → List ℕ → Outcome
-payout b words day failed prices amounts =
-    decided b (firstOf (payoutTable b words day failed prices amounts))
-    (answered (withAccount b (accountPaying b day failed prices (countedEntries b words))))
-
--- the lent amounts after the call: all 32 are written, and the words after them stay
-unfoldable pub payoutAmounts : Book → List ℕ → Day → Bool → List ℤ → List ℕ → List ℕ
-payoutAmounts b words day failed prices amounts =
-    decidedList amounts (firstOf (payoutTable b words day failed prices amounts))
-    (amountsOf b day failed prices (countedEntries b words) ++ drop bidderLimit amounts)
+-- "The sums go to a lent list of 32 amounts; the account pays": the amounts are the money that goes out
+unfoldable pub payout : Day → Bool → List ℤ → List ℕ → Rule
+payout day failed prices amounts =
+    record {
+      on =
+          λ b es.
+          record {
+            lent = shortPayoutLists prices amounts;
+            register = read;
+            own = hourRefusals day failed prices ++ accountRefusals b es day failed prices;
+            outcome = answered (withAccount b (accountPaying b day failed prices es));
+            fronts = amountsPut (amountsOf b day failed prices es);
+          };
+      into = nothing;
+      out = listed;
+    }

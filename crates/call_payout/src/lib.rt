@@ -15,11 +15,12 @@ ghost use lib.ListN.{length};
 ghost use Rattle.market.specs.Answers.{firstOf};
 ghost use Rattle.market.specs.Limits.{zones};
 ghost use Rattle.register.specs.Refusals.{registerRefusals};
+ghost use Rattle.call_rules.specs.Steps.{outcomeOf, listAfter, toAmounts};
 ghost use Rattle.call_payout.specs.Payout as rules;
 
 // The refusal of what is lent: 1 for a list that is too short, 1 or 2 for the register; 0 where there is none.
 fn lent_refusal(book: Book, words: &[u32], prices: &[i64], amounts: &[u64]) -> u32
-    ensures { λ r. ⌜ r ≡ firstOf (rules.payoutListRefusals (now (prices .entry)) (now (amounts .entry)) ++ registerRefusals book (now (words .entry))) ⌝ }
+    ensures { λ r. ⌜ r ≡ firstOf (rules.shortPayoutLists (now (prices .entry)) (now (amounts .entry)) ++ registerRefusals book (now (words .entry))) ⌝ }
 {
     if prices.len() < Engine::ZONES {
         return Refusal::SHORT_BUFFER;
@@ -57,8 +58,9 @@ pub fn payout(
     prices: &[i64],
     lent: &mut [u64],
 ) -> Outcome
-    ensures outcome { λ r. ⌜ r ≡ rules.payout book (now (words .entry)) day failed (now (prices .entry)) (now (lent .entry)) ⌝ }
-    ensures amounts { λ r. ⌜ now (lent .exit) ≡ rules.payoutAmounts book (now (words .entry)) day failed (now (prices .entry)) (now (lent .entry)) ⌝ }
+    ensures outcome { λ r. ⌜ r ≡ outcomeOf (rules.payout day failed (now (prices .entry)) (now (lent .entry))) book (now (words .entry)) ⌝ }
+    ensures amounts { λ r. ⌜ now (lent .exit)
+        ≡ listAfter toAmounts (rules.payout day failed (now (prices .entry)) (now (lent .entry))) book (now (words .entry)) (now (lent .entry)) ⌝ }
 {
     let first = lent_refusal(book, words, prices, lent);
     if first != Refusal::NONE {

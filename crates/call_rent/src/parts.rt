@@ -6,15 +6,15 @@ use market::units::Cents;
 ghost use mathlib.Core.Path.{_≡_};
 ghost use mathlib.Core.Bool.{true};
 ghost use Prim.Native.Nat.{_≤_};
-ghost use Rattle.market.specs.Answers.{firstOf};
 ghost use Rattle.market.specs.Books.{withAccount};
 ghost use Rattle.market.specs.Limits.{moneyLimit};
 ghost use Rattle.market.specs.Sound.{soundBook};
-ghost use Rattle.call_rent.specs.Rent.{rentRefusals, accountWithRent};
+ghost use Rattle.call_rules.specs.Steps.{noRegister, refusalOf};
+ghost use Rattle.call_rent.specs.Rent.{accountWithRent, rent};
 
 // The refusal of rent, 0 where there is none.
 pub fn refusal(book: Book, amount: Cents) -> u32
-    ensures { λ r. ⌜ r ≡ firstOf (rentRefusals book amount) ⌝ }
+    ensures { λ r. ⌜ r ≡ refusalOf (rent amount) book noRegister ⌝ }
 {
     if !book_sound::sound_book(book) {
         return Refusal::UNSOUND;

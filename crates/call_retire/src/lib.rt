@@ -7,12 +7,12 @@ use market::engine::Engine;
 use market::units::Day;
 use register::Removal;
 ghost use mathlib.Core.Path.{_≡_};
-ghost use Rattle.market.specs.Answers.{firstOf};
+ghost use Rattle.call_rules.specs.Steps.{refusalOf, outcomeOf, wordsAfter};
 ghost use Rattle.call_retire.specs.Retire as rules;
 
 // The refusal of retire, 0 where there is none.
 fn refusal(book: Book, words: &[u32], day: Day) -> u32
-    ensures { λ r. ⌜ r ≡ firstOf (rules.retireTable book (now (words .entry)) day) ⌝ }
+    ensures { λ r. ⌜ r ≡ refusalOf (rules.retire day) book (now (words .entry)) ⌝ }
 {
     let number = register_sound::refusal(book, words);
     if number != Refusal::NONE {
@@ -26,8 +26,8 @@ fn refusal(book: Book, words: &[u32], day: Day) -> u32
 
 // Removes the issued entries whose last day is before `day`.
 pub fn retire(book: Book, words: &mut [u32], day: Day) -> Outcome
-    ensures outcome { λ r. ⌜ r ≡ rules.retire book (now (words .entry)) day ⌝ }
-    ensures words { λ r. ⌜ now (words .exit) ≡ rules.retireWords book (now (words .entry)) day ⌝ }
+    ensures outcome { λ r. ⌜ r ≡ outcomeOf (rules.retire day) book (now (words .entry)) ⌝ }
+    ensures words { λ r. ⌜ now (words .exit) ≡ wordsAfter (rules.retire day) book (now (words .entry)) ⌝ }
 {
     let number = refusal(book, words, day);
     if number != Refusal::NONE {

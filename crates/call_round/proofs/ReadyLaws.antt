@@ -5,12 +5,13 @@ use mathlib.Core.List.{List}
 use Prim.Native.Nat.{ℕ, _≤_}
 use lib.ListN.{length, replicate}
 use Rattle.market.proofs.SoundLaws.{sound-parts, count-within}
-use Rattle.market.specs.Limits.{pathLimit, bidLimit, bidderLimit}
+use Rattle.market.specs.Answers.{firstOf}
+use Rattle.market.specs.Limits.{pathLimit, bidLimit, bidderLimit, bidListWords}
 use Rattle.market.specs.Sound.{soundBook}
 use Rattle.market.specs.declared.book.Book.{Book}
 use Rattle.round_bids.proofs.EncodingLaws.{bids-right}
 use Rattle.round_bids.proofs.Walk.{list-sound, bids-few}
-use Rattle.round_bids.specs.BidRefusals.{BidList}
+use Rattle.round_bids.specs.BidRefusals.{listRefusals, BidList}
 use Rattle.round_bids.specs.Bids.{bidsOf}
 use Rattle.round_bids.specs.Encoding.{rightBids}
 use Rattle.round_admission.proofs.MarkLaws.{marks-length}
@@ -22,19 +23,26 @@ use Rattle.call_round.specs.Round.{offeredNow, marksNow, awardsNow}
 use Rattle.call_round.specs.declared.worked.Worked.{Worked}
 use Rattle.call_round.proofs.RoundLaws.{padded-at, padded-length, awards-same}
 
+few-paths : (b : Book) → soundBook b ≡ true → b .«path_count» ≤ pathLimit
+few-paths b sound = count-within (b .«path_count») (sound-parts b sound .path-count)
+
+-- a bid list that no row refuses, for a sound book
+pub bids-listed : (b : Book) (bidWords : List ℕ) → soundBook b ≡ true → length bidWords ≤ bidListWords → firstOf (listRefusals (b .«path_count») bidWords) ≡ 0 → BidList bidWords
+bids-listed b bidWords sound short clear =
+    record { short = short; sound = list-sound (b .«path_count») pathLimit bidWords (few-paths b sound) clear }
+
 module _ (b : Book) (words bidWords answers results scratch : List ℕ) (early : Early b words bidWords answers results scratch) where
   pub sound : soundBook b ≡ true
   sound = early .lent .register .sound
 
   pub paths-few : b .«path_count» ≤ pathLimit
-  paths-few = count-within (b .«path_count») (sound-parts b sound .path-count)
+  paths-few = few-paths b sound
 
   pub right : rightBids (b .«path_count») (bidsOf bidWords) ≡ true
   right = bids-right (b .«path_count») bidWords (early .clear)
 
   pub listed : BidList bidWords
-  listed =
-      record { short = early .short; sound = list-sound (b .«path_count») pathLimit bidWords paths-few (early .clear) }
+  listed = bids-listed b bidWords sound (early .short) (early .clear)
 
   module _ (w : Worked) (out : WorkedOut b bidWords w) where
     pub marks-long : length (w .marks) ≡ bidLimit

@@ -6,7 +6,7 @@ use Prim.Native.Nat.{ℕ, zero, suc, _-_, _≤_, _<_, min}
 use native.Mathlib.Omega.{arith}
 use lib.Dec.{leb, ltb, eqb}
 use lib.ListN.{length, getD, replicate}
-use borrow.Author.Tests.{leb-true, le-leb, eqb-true, eqb-false, leb-false}
+use borrow.Author.Tests.{leb-true, le-leb, eqb-true, leb-false}
 use Rattle.market.proofs.Every.{every-at-any, every-append, every-replicate, every-map}
 use Rattle.market.proofs.SoundLaws.{sound-parts, path-bounds}
 use Rattle.market.specs.Books.{every, pathsOf}

@@ -1,31 +1,31 @@
--- Document 01, "Round.": the whole of it, from the book, the register and the words of the bid list.
-use mathlib.Core.Path.{_≡_}
-use mathlib.Core.Bool.{not}
+-- Document 01, "Round.": the whole of it, from the book, its entries and the words of the bid list.
+use mathlib.Core.Bool.{true, not}
 use mathlib.Core.List.{List, [], _∷_, _++_}
-use Prim.Native.Nat.{ℕ, zero, suc, _+_}
+use Prim.Native.Nat.{ℕ, _+_}
 use lib.Dec.{leb}
 use lib.ListN.{length}
-use Rattle.market.specs.Answers.{Row, _gives_, firstOf, decided, decidedList}
+use Rattle.market.specs.Answers.{Row, _gives_}
 use Rattle.market.specs.Limits.{entryLimit, bidListWords, bidAnswerWords, pathAnswerWords, scratchWords}
 use Rattle.market.specs.Sound.{isIdle, roundOf, kindOf, periodOf}
 use Rattle.market.specs.declared.answer.Answer.the-variants.{Bids}
-use Rattle.market.specs.declared.answer.Outcome.{Outcome}
 use Rattle.market.specs.declared.book.Book.{Book}
 use Rattle.market.specs.declared.book.Entry.{Entry}
-use Rattle.register.specs.Refusals.{registerRefusals, countedEntries}
-use Rattle.register.specs.Words.{entriesWritten}
+use Rattle.register.specs.Refusals.{registerRefusals}
 use Rattle.round_bids.specs.Bids.{Bid, bidsOf}
 use Rattle.round_bids.specs.BidRefusals.{listRefusals}
 use Rattle.round_admission.specs.Admission.{biddingLimits, marksOf}
 use Rattle.round_award_rules.specs.Awards.{Award, awardsOf}
 use Rattle.round_awards.specs.Tables.{wonTable, soldTable, priceTable}
 use Rattle.round_charges.specs.Charges.{chargesOf, bidRows}
-use Rattle.market.specs.Books.{withFront}
 use Rattle.round_entries.specs.Entries.{newEntries}
 use Rattle.round_paths.specs.PathRows.{pathRows}
 use Rattle.round_bidders.specs.Bidders.{billedAll}
 use Rattle.round_paths.specs.Stages.{stageAfter}
 use Rattle.round_paths.specs.PathSales.{offeredBy, soldTo}
+use Rattle.call_rules.specs.Money.{nothing}
+use Rattle.call_rules.specs.Rule.{Rule}
+use Rattle.call_rules.specs.Rule.Register.{changed}
+use Rattle.call_rules.specs.Rule.Front.{kept, put}
 
 -- ---- What a round works out, from the book and its bids
 
@@ -55,13 +55,21 @@ pricesNow b bids = priceTable (awardsNow b bids)
 abbrev pub entriesNow : Book → List Bid → List Entry
 entriesNow b bids = newEntries (periodOf (b .stage)) (wonNow b bids) bids
 
+-- "each 1 admitted or 0 over, bid value, MW, charge"
+abbrev pub bidAnswersNow : Book → List Bid → List ℕ
+bidAnswersNow b bids = bidRows (marksNow b bids) (wonNow b bids) (pricesNow b bids) bids
+
+-- "each offered and sold in this round, price or 0"
+abbrev pub pathAnswersNow : Book → List Bid → List ℕ
+pathAnswersNow b bids = pathRows (offeredNow b) (soldNow b bids) (pricesNow b bids) (b .«path_count»)
+
 -- ---- Refusals
 
--- 1 "a lent buffer shorter than stated": the bids' and the paths' answers and the scratch
-abbrev pub roundListRefusals : List ℕ → List ℕ → List ℕ → List Row
-roundListRefusals bidAnswers pathAnswers scratch =
-    (not (leb bidAnswerWords (length bidAnswers)) gives 1)
-    ∷ (not (leb pathAnswerWords (length pathAnswers)) gives 1)
+-- 1 "a lent buffer shorter than stated": a list for the answers of bids or of paths, or the scratch, that is too short
+abbrev pub shortRoundLists : List ℕ → List ℕ → List ℕ → List Row
+shortRoundLists answers results scratch =
+    (not (leb bidAnswerWords (length answers)) gives 1)
+    ∷ (not (leb pathAnswerWords (length results)) gives 1)
     ∷ (not (leb scratchWords (length scratch)) gives 1)
     ∷ []
 
@@ -74,16 +82,16 @@ deskRefusals b bidWords =
 abbrev pub roomRefusals : Book → List Bid → List Row
 roomRefusals b bids = (not (leb (b .entries + length (entriesNow b bids)) entryLimit) gives 23) ∷ []
 
+-- a round's own, in the paper's order: 20, 22, then the first faulty bid's 14, 15 or 16, and 23 last
+abbrev pub roundRefusals : Book → List ℕ → List Row
+roundRefusals b bidWords =
+    deskRefusals b bidWords ++ (listRefusals (b .«path_count») bidWords ++ roomRefusals b (bidsOf bidWords))
+
 -- those that need no award: 1, 2, 20, 22, and the first faulty bid's 14, 15 or 16
 abbrev pub earlyRefusals : Book → List ℕ → List ℕ → List ℕ → List ℕ → List ℕ → List Row
-earlyRefusals b words bidWords bidAnswers pathAnswers scratch =
-    (roundListRefusals bidAnswers pathAnswers scratch ++ registerRefusals b words)
-    ++ (deskRefusals b bidWords ++ listRefusals (b .«path_count») bidWords)
-
--- the whole, in the paper's order: 1, 2, 20, 22, then 14, 15 or 16, and 23 last
-abbrev pub roundTable : Book → List ℕ → List ℕ → List ℕ → List ℕ → List ℕ → List Row
-roundTable b words bidWords bidAnswers pathAnswers scratch =
-    earlyRefusals b words bidWords bidAnswers pathAnswers scratch ++ roomRefusals b (bidsOf bidWords)
+earlyRefusals b words bidWords answers results scratch =
+    shortRoundLists answers results scratch
+    ++ (registerRefusals b words ++ (deskRefusals b bidWords ++ listRefusals (b .«path_count») bidWords))
 
 -- ---- The round
 
@@ -104,35 +112,27 @@ abbrev pub bookAfter : Book → List Bid → Book
 bookAfter b bids =
     bookWith b (wonNow b bids) (soldNow b bids) (pricesNow b bids) bids (b .entries + length (entriesNow b bids))
 
--- "The answer carries the number of bids."
-unfoldable pub round : Book → List ℕ → List ℕ → List ℕ → List ℕ → List ℕ → Outcome
-round b words bidWords bidAnswers pathAnswers scratch =
-    decided b (firstOf (roundTable b words bidWords bidAnswers pathAnswers scratch))
-    (record { answer = Bids (length (bidsOf bidWords)); book = bookAfter b (bidsOf bidWords) })
-
--- the register after it
-unfoldable pub roundWords : Book → List ℕ → List ℕ → List ℕ → List ℕ → List ℕ → List ℕ
-roundWords b words bidWords bidAnswers pathAnswers scratch =
-    decidedList words (firstOf (roundTable b words bidWords bidAnswers pathAnswers scratch))
-    (entriesWritten words (countedEntries b words ++ entriesNow b (bidsOf bidWords)))
-
--- "each 1 admitted or 0 over, bid value, MW, charge"; "Words past the last bid or path stay."
-unfoldable pub roundBidAnswers : Book → List ℕ → List ℕ → List ℕ → List ℕ → List ℕ → List ℕ
-roundBidAnswers b words bidWords bidAnswers pathAnswers scratch =
-    decidedList bidAnswers (firstOf (roundTable b words bidWords bidAnswers pathAnswers scratch))
-    (withFront
-    (bidRows (marksNow b (bidsOf bidWords)) (wonNow b (bidsOf bidWords)) (pricesNow b (bidsOf bidWords)) (bidsOf bidWords))
-    bidAnswers)
-
--- "each offered and sold in this round, price or 0"
-unfoldable pub roundPathAnswers : Book → List ℕ → List ℕ → List ℕ → List ℕ → List ℕ → List ℕ
-roundPathAnswers b words bidWords bidAnswers pathAnswers scratch =
-    decidedList pathAnswers (firstOf (roundTable b words bidWords bidAnswers pathAnswers scratch))
-    (withFront
-    (pathRows (offeredNow b) (soldNow b (bidsOf bidWords)) (pricesNow b (bidsOf bidWords)) (b .«path_count»))
-    pathAnswers)
-
--- "the scratch, which may hold any words after an answered round": as it was after a refusal, and otherwise of the same length
-abbrev pub scratchAfter : ℕ → List ℕ → List ℕ → Type 0
-scratchAfter zero before after = length after ≡ length before
-scratchAfter (suc n) before after = after ≡ before
+-- "The answer carries the number of bids."; "Words past the last bid or path stay."; "the scratch, which may hold any words after
+-- an answered round"; and no money moves
+unfoldable pub round : List ℕ → List ℕ → List ℕ → List ℕ → Rule
+round bidWords answers results scratch =
+    record {
+      on =
+          λ b es.
+          let bids = bidsOf bidWords in
+          record {
+            lent = shortRoundLists answers results scratch;
+            register = changed (es ++ entriesNow b bids);
+            own = roundRefusals b bidWords;
+            outcome = record { answer = Bids (length bids); book = bookAfter b bids };
+            fronts =
+                record {
+                  amounts = kept;
+                  answers = put (bidAnswersNow b bids);
+                  results = put (pathAnswersNow b bids);
+                  free = true;
+                };
+          };
+      into = nothing;
+      out = nothing;
+    }

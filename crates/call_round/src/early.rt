@@ -9,12 +9,12 @@ ghost use Rattle.market.specs.Answers.{firstOf};
 ghost use Rattle.market.specs.Limits.{pathLimit};
 ghost use Rattle.round_bids.specs.BidRefusals.{listRefusals};
 ghost use Rattle.register.specs.Refusals.{registerRefusals};
-ghost use Rattle.call_round.specs.Round.{roundListRefusals, deskRefusals, earlyRefusals};
+ghost use Rattle.call_round.specs.Round.{shortRoundLists, deskRefusals, earlyRefusals};
 
 // The first refusal of the lent lists, or of the register (1 or 2); 0 where there is none.
 fn lent_refusal(book: Book, words: &[u32], answers: &[u64], results: &[u64], scratch: &[u32]) -> u32
     ensures { λ r. ⌜
-        r ≡ firstOf (roundListRefusals (now (answers .entry)) (now (results .entry)) (now (scratch .entry)) ++ registerRefusals book (now (words .entry))) ⌝ }
+        r ≡ firstOf (shortRoundLists (now (answers .entry)) (now (results .entry)) (now (scratch .entry)) ++ registerRefusals book (now (words .entry))) ⌝ }
 {
     if answers.len() < Engine::BID_ANSWER_WORDS {
         return Refusal::SHORT_BUFFER;

@@ -13,14 +13,12 @@ ghost use mathlib.Core.Path.{_≡_};
 ghost use mathlib.Core.List.{_++_};
 ghost use Prim.Native.Nat.{_+_, _≤_};
 ghost use lib.ListN.{length};
-ghost use Rattle.market.specs.Answers.{firstOf};
 ghost use Rattle.market.specs.Limits.{entryLimit};
 ghost use Rattle.round_bids.specs.Bids.{bidsOf};
-ghost use Rattle.round_charges.specs.Charges.{bidRows};
 ghost use Rattle.market.specs.Books.{withFront};
-ghost use Rattle.round_paths.specs.PathRows.{pathRows};
 ghost use Rattle.register.specs.Refusals.{countedEntries};
 ghost use Rattle.register.specs.Words.{entriesWritten};
+ghost use Rattle.call_rules.specs.Steps.{outcomeOf, wordsAfter, toAnswers, toResults, listAfter, ScratchAfter};
 ghost use Rattle.call_round.specs.Ready.{Early, WorkedOut};
 ghost use Rattle.call_round.specs.Round as rules;
 
@@ -40,16 +38,8 @@ fn answered(
     ensures book { λ r. ⌜ r ≡ rules.bookAfter book (bidsOf (now (bids .entry))) ⌝ }
     ensures register { λ r. ⌜ now (words .exit)
         ≡ entriesWritten (now (words .entry)) (countedEntries book (now (words .entry)) ++ rules.entriesNow book (bidsOf (now (bids .entry)))) ⌝ }
-    ensures bids { λ r. ⌜ now (answers .exit)
-        ≡ withFront
-        (bidRows (rules.marksNow book (bidsOf (now (bids .entry)))) (rules.wonNow book (bidsOf (now (bids .entry))))
-        (rules.pricesNow book (bidsOf (now (bids .entry)))) (bidsOf (now (bids .entry))))
-        (now (answers .entry)) ⌝ }
-    ensures paths { λ r. ⌜ now (results .exit)
-        ≡ withFront
-        (pathRows (rules.offeredNow book) (rules.soldNow book (bidsOf (now (bids .entry)))) (rules.pricesNow book (bidsOf (now (bids .entry))))
-        (book .«path_count»))
-        (now (results .entry)) ⌝ }
+    ensures bids { λ r. ⌜ now (answers .exit) ≡ withFront (rules.bidAnswersNow book (bidsOf (now (bids .entry)))) (now (answers .entry)) ⌝ }
+    ensures paths { λ r. ⌜ now (results .exit) ≡ withFront (rules.pathAnswersNow book (bidsOf (now (bids .entry)))) (now (results .entry)) ⌝ }
     ensures scratch { λ r. ⌜ length (now (scratch .exit)) ≡ length (now (scratch .entry)) ⌝ }
 {
     let marks = worked.marks;
@@ -72,16 +62,20 @@ pub fn round(
     scratch: &mut [u32],
 ) -> Outcome
     ensures outcome { λ r. ⌜ r
-        ≡ rules.round book (now (words .entry)) (now (bids .entry)) (now (answers .entry)) (now (results .entry)) (now (scratch .entry)) ⌝ }
+        ≡ outcomeOf (rules.round (now (bids .entry)) (now (answers .entry)) (now (results .entry)) (now (scratch .entry)))
+        book (now (words .entry)) ⌝ }
     ensures register { λ r. ⌜ now (words .exit)
-        ≡ rules.roundWords book (now (words .entry)) (now (bids .entry)) (now (answers .entry)) (now (results .entry)) (now (scratch .entry)) ⌝ }
+        ≡ wordsAfter (rules.round (now (bids .entry)) (now (answers .entry)) (now (results .entry)) (now (scratch .entry)))
+        book (now (words .entry)) ⌝ }
     ensures bids { λ r. ⌜ now (answers .exit)
-        ≡ rules.roundBidAnswers book (now (words .entry)) (now (bids .entry)) (now (answers .entry)) (now (results .entry)) (now (scratch .entry)) ⌝ }
+        ≡ listAfter toAnswers (rules.round (now (bids .entry)) (now (answers .entry)) (now (results .entry)) (now (scratch .entry)))
+        book (now (words .entry)) (now (answers .entry)) ⌝ }
     ensures paths { λ r. ⌜ now (results .exit)
-        ≡ rules.roundPathAnswers book (now (words .entry)) (now (bids .entry)) (now (answers .entry)) (now (results .entry)) (now (scratch .entry)) ⌝ }
-    ensures scratch { λ r. ⌜ rules.scratchAfter
-        (firstOf (rules.roundTable book (now (words .entry)) (now (bids .entry)) (now (answers .entry)) (now (results .entry)) (now (scratch .entry))))
-        (now (scratch .entry)) (now (scratch .exit)) ⌝ }
+        ≡ listAfter toResults (rules.round (now (bids .entry)) (now (answers .entry)) (now (results .entry)) (now (scratch .entry)))
+        book (now (words .entry)) (now (results .entry)) ⌝ }
+    ensures scratch { λ r. ⌜ ScratchAfter
+        (rules.round (now (bids .entry)) (now (answers .entry)) (now (results .entry)) (now (scratch .entry)))
+        book (now (words .entry)) (now (scratch .entry)) (now (scratch .exit)) ⌝ }
 {
     let number = early::refusal(book, words, bids, answers, results, scratch);
     if number != Refusal::NONE {

@@ -1,2 +1,2 @@
--- A law of the scratch after a call.
-pub mod Scratch
+-- The rule of each call is lawful.
+pub mod Laws

@@ -3,6 +3,7 @@
 use mathlib.Core.List.{List}
 use Prim.Native.Nat.{ℕ}
 use lib.IntN.{ℤ}
+use Rattle.call_rules.specs.Rule.{Lists, lists}
 use Rattle.call_disburse.specs.Disbursement as pools
 
 pub record Lent : Type 0 where
@@ -43,3 +44,7 @@ lent quantities bids prices provincial export meters interties amounts answers r
 -- what disburse and recover are lent
 abbrev pub poolListsOf : Lent → pools.PoolLists
 poolListsOf l = pools.poolLists (l .provincial) (l .export) (l .meters) (l .interties) (l .amounts)
+
+-- the lists that some call writes to
+abbrev pub listsOf : Lent → Lists
+listsOf l = lists (l .amounts) (l .answers) (l .results)

@@ -1,3 +1,4 @@
--- The rule of a call, whichever of the eleven it is.
+-- The rule of a call, whichever of the eleven it is, and what it leaves.
 pub mod Lent
+pub mod Rules
 pub mod Step

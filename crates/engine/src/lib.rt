@@ -4,7 +4,8 @@ pub mod calls;
 use calls::Call;
 use market::answer::Outcome;
 use market::book::Book;
-ghost use mathlib.Core.Path.{_≡_};
+ghost use Rattle.call_rules.specs.Rule.{lists};
+ghost use Rattle.call_rules.specs.Steps.{leaving};
 ghost use Rattle.engine.specs.Lent.{lent};
 ghost use Rattle.engine.specs.Step as rules;
 
@@ -27,37 +28,12 @@ pub fn call(
     results: &mut [u64],
     scratch: &mut [u32],
 ) -> Outcome
-    ensures outcome { λ r. ⌜ r
-        ≡ rules.step book (now (words .entry)) what
+    ensures { λ r. ⌜ rules.Leaves book (now (words .entry)) what
         (lent (now (quantities .entry)) (now (bids .entry)) (now (prices .entry)) (now (provincial .entry)) (now (export .entry))
         (now (meters .entry)) (now (interties .entry)) (now (amounts .entry)) (now (answers .entry)) (now (results .entry))
-        (now (scratch .entry))) .outcome ⌝ }
-    ensures register { λ r. ⌜ now (words .exit)
-        ≡ rules.step book (now (words .entry)) what
-        (lent (now (quantities .entry)) (now (bids .entry)) (now (prices .entry)) (now (provincial .entry)) (now (export .entry))
-        (now (meters .entry)) (now (interties .entry)) (now (amounts .entry)) (now (answers .entry)) (now (results .entry))
-        (now (scratch .entry))) .words ⌝ }
-    ensures amounts { λ r. ⌜ now (amounts .exit)
-        ≡ rules.step book (now (words .entry)) what
-        (lent (now (quantities .entry)) (now (bids .entry)) (now (prices .entry)) (now (provincial .entry)) (now (export .entry))
-        (now (meters .entry)) (now (interties .entry)) (now (amounts .entry)) (now (answers .entry)) (now (results .entry))
-        (now (scratch .entry))) .amounts ⌝ }
-    ensures bids { λ r. ⌜ now (answers .exit)
-        ≡ rules.step book (now (words .entry)) what
-        (lent (now (quantities .entry)) (now (bids .entry)) (now (prices .entry)) (now (provincial .entry)) (now (export .entry))
-        (now (meters .entry)) (now (interties .entry)) (now (amounts .entry)) (now (answers .entry)) (now (results .entry))
-        (now (scratch .entry))) .answers ⌝ }
-    ensures paths { λ r. ⌜ now (results .exit)
-        ≡ rules.step book (now (words .entry)) what
-        (lent (now (quantities .entry)) (now (bids .entry)) (now (prices .entry)) (now (provincial .entry)) (now (export .entry))
-        (now (meters .entry)) (now (interties .entry)) (now (amounts .entry)) (now (answers .entry)) (now (results .entry))
-        (now (scratch .entry))) .results ⌝ }
-    ensures scratch { λ r. ⌜ rules.ScratchHolds
-        (rules.step book (now (words .entry)) what
-        (lent (now (quantities .entry)) (now (bids .entry)) (now (prices .entry)) (now (provincial .entry)) (now (export .entry))
-        (now (meters .entry)) (now (interties .entry)) (now (amounts .entry)) (now (answers .entry)) (now (results .entry))
-        (now (scratch .entry))) .free)
-        (now (scratch .entry)) (now (scratch .exit)) ⌝ }
+        (now (scratch .entry)))
+        (leaving r (now (words .exit)) (lists (now (amounts .exit)) (now (answers .exit)) (now (results .exit))))
+        (now (scratch .exit)) ⌝ }
 {
     match what {
         Call::Deposit { bidder, to, amount } => call_funding::deposit(book, bidder, to, amount),

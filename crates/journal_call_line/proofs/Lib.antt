@@ -1,4 +1,4 @@
 -- Laws about the lines of a journal.
-pub mod VerbLaws
 pub mod SaidLaws
+pub mod FormLaws
 pub mod LengthLaws

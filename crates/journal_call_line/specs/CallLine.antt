@@ -1,12 +1,12 @@
--- docs/JOURNAL.md, "A line": what the fields after a line's first word say, call by call. A line "that has not this form" says
--- nothing, which is `Faulty`.
+-- docs/JOURNAL.md, "A line": what a line says, call by call. A line "that has not this form" says nothing, which is `Faulty`.
+use mathlib.Core.Path.{_≡_}
 use mathlib.Core.Bool.{Bool, true, false, cond, _&&_}
-use mathlib.Core.List.{List, []}
+use mathlib.Core.List.{List, [], _∷_, _++_}
 use Prim.Native.Nat.{ℕ, _+_, _*_, _%_}
 use lib.Dec.{eqb}
 use lib.IntN.{ℤ}
 use lib.ListN.{length, drop}
-use Rattle.market.specs.Books.{cents, dayNumber}
+use Rattle.market.specs.Books.{cents, dayNumber, withFront}
 use Rattle.market.specs.Limits.{bidderLimit, quantityWords, zones}
 use Rattle.market.specs.declared.book.Kind.{Kind}
 use Rattle.market.specs.declared.book.Kind.the-variants.{Short, Long}
@@ -15,24 +15,57 @@ use Rattle.call_funding.specs.declared.Funds.{Funds}
 use Rattle.call_funding.specs.declared.Funds.the-variants.{Cash, Letter}
 use Rattle.engine.specs.declared.calls.Call.{Call}
 use Rattle.engine.specs.declared.calls.Call.the-variants.{Deposit, Withdraw, Open, Round, Pay, Default, Retire, Rent, Payout, Disburse, Recover}
-use Rattle.text_fields.specs.Fields.{wordTop}
+use Rattle.text_fields.specs.Fields.{wordTop, startsWith}
 use Rattle.text_fields.specs.declared.Field.{Field}
 use Rattle.journal_fields.specs.JournalFields.{wideTop, present, number, lastNumber, choice, wordsSaid, wordsUsed, pricesSaid, pricesUsed}
-use Rattle.journal_call_line.specs.Verbs as words
 use Rattle.journal_call_line.specs.declared.heads.HourLine.{HourLine}
 use Rattle.journal_call_line.specs.declared.heads.Opening.{Opening}
 use Rattle.journal_call_line.specs.declared.Said.{Said}
 use Rattle.journal_call_line.specs.declared.Said.the-variants.{Faulty, Called}
-use Rattle.journal_call_line.specs.declared.verbs.Named.{Named}
-use Rattle.journal_call_line.specs.declared.verbs.Verb.{Verb}
-use Rattle.journal_call_line.specs.declared.verbs.Verb.the-variants as verbs
 
--- a call with `count` words and `prices` prices in its lists, where all of its line is well formed
-abbrev pub whole : Bool → Call → ℕ → ℕ → Said
-whole true call count prices = Called call count prices
-whole false call count prices = Faulty
+-- what is read of a line: its call, which it says only if the whole line has the call's form, and the list that it ends in, of
+-- words or of prices
+pub record Reading : Type 0 where
+  pub whole : Bool
+  pub call : Call
+  pub words : List ℕ
+  pub prices : List ℤ
+
+-- a call and how many words and prices it has
+abbrev pub saidOf : Reading → Said
+saidOf r = cond (r .whole) (Called (r .call) (length (r .words)) (length (r .prices))) Faulty
+
+-- what a reader of a line leaves: what the line says, and its words and prices at the front of two lists
+pub record ReadInto (r : Reading) (said : Said) (words words' : List ℕ) (prices prices' : List ℤ) : Type 0 where
+  pub says : said ≡ saidOf r
+  pub laid : words' ≡ withFront (r .words) words
+  pub priced : prices' ≡ withFront (r .prices) prices
+
+-- a reading without a list
+abbrev pub plainly : Bool → Call → Reading
+plainly whole call = record { whole = whole; call = call; words = []; prices = [] }
+
+-- and one with words
+abbrev pub withWords : Bool → Call → List ℕ → Reading
+withWords whole call words = record { whole = whole; call = call; words = words; prices = [] }
 
 -- ---- deposit B cash|letter AMOUNT, withdraw B cash|letter AMOUNT
+
+-- "deposit"
+abbrev pub depositWord : List ℕ
+depositWord = 100 ∷ 101 ∷ 112 ∷ 111 ∷ 115 ∷ 105 ∷ 116 ∷ []
+
+-- "withdraw"
+abbrev pub withdrawWord : List ℕ
+withdrawWord = 119 ∷ 105 ∷ 116 ∷ 104 ∷ 100 ∷ 114 ∷ 97 ∷ 119 ∷ []
+
+-- an option is one of two words, each with its space: " cash"
+abbrev pub cashOption : List ℕ
+cashOption = 32 ∷ 99 ∷ 97 ∷ 115 ∷ 104 ∷ []
+
+-- " letter"
+abbrev pub letterOption : List ℕ
+letterOption = 32 ∷ 108 ∷ 101 ∷ 116 ∷ 116 ∷ 101 ∷ 114 ∷ []
 
 abbrev pub fundsOf : ℕ → Funds
 fundsOf n = cond (eqb n 0) Cash Letter
@@ -41,43 +74,65 @@ abbrev pub accountCall : Bool → ℕ → Funds → ℕ → Call
 accountCall true bidder funds amount = Deposit bidder funds (cents amount)
 accountCall false bidder funds amount = Withdraw bidder funds (cents amount)
 
-abbrev pub accountOf : Bool → Field → Field → Field → Said
-accountOf deposit b f a =
-    whole (present b && present f && present a) (accountCall deposit (b .value) (fundsOf (f .value)) (a .value)) 0 0
-
-unfoldable pub accountSaid : Bool → List ℕ → Said
-accountSaid deposit text =
+abbrev pub accountRead : Bool → List ℕ → Reading
+accountRead deposit text =
     let b = number wordTop text in
-    let f = choice words.cashOption words.letterOption (drop (b .used) text) in
-    accountOf deposit b f (lastNumber wideTop (drop (b .used + f .used) text))
+    let f = choice cashOption letterOption (drop (b .used) text) in
+    let a = lastNumber wideTop (drop (b .used + f .used) text) in
+    plainly (present b && present f && present a) (accountCall deposit (b .value) (fundsOf (f .value)) (a .value))
 
--- ---- pay B AMOUNT; default B; retire DAY; rent AMOUNT
+-- ---- pay B AMOUNT
 
-abbrev pub payOf : Field → Field → Said
-payOf b a = whole (present b && present a) (Pay (b .value) (cents (a .value))) 0 0
+-- "pay"
+abbrev pub payWord : List ℕ
+payWord = 112 ∷ 97 ∷ 121 ∷ []
 
-unfoldable pub paySaid : List ℕ → Said
-paySaid text = let b = number wordTop text in payOf b (lastNumber wideTop (drop (b .used) text))
+abbrev pub payRead : List ℕ → Reading
+payRead text =
+    let b = number wordTop text in
+    let a = lastNumber wideTop (drop (b .used) text) in
+    plainly (present b && present a) (Pay (b .value) (cents (a .value)))
 
-abbrev pub defaultOf : Field → Said
-defaultOf b = whole (present b) (Default (b .value)) 0 0
+-- ---- default B
 
-unfoldable pub defaultSaid : List ℕ → Said
-defaultSaid text = defaultOf (lastNumber wordTop text)
+-- "default"
+abbrev pub defaultWord : List ℕ
+defaultWord = 100 ∷ 101 ∷ 102 ∷ 97 ∷ 117 ∷ 108 ∷ 116 ∷ []
 
-abbrev pub retireOf : Field → Said
-retireOf d = whole (present d) (Retire (dayNumber (d .value))) 0 0
+abbrev pub defaultRead : List ℕ → Reading
+defaultRead text = let b = lastNumber wordTop text in plainly (present b) (Default (b .value))
 
-unfoldable pub retireSaid : List ℕ → Said
-retireSaid text = retireOf (lastNumber wordTop text)
+-- ---- retire DAY
 
-abbrev pub rentOf : Field → Said
-rentOf a = whole (present a) (Rent (cents (a .value))) 0 0
+-- "retire"
+abbrev pub retireWord : List ℕ
+retireWord = 114 ∷ 101 ∷ 116 ∷ 105 ∷ 114 ∷ 101 ∷ []
 
-unfoldable pub rentSaid : List ℕ → Said
-rentSaid text = rentOf (lastNumber wideTop text)
+abbrev pub retireRead : List ℕ → Reading
+retireRead text = let d = lastNumber wordTop text in plainly (present d) (Retire (dayNumber (d .value)))
+
+-- ---- rent AMOUNT
+
+-- "rent"
+abbrev pub rentWord : List ℕ
+rentWord = 114 ∷ 101 ∷ 110 ∷ 116 ∷ []
+
+abbrev pub rentRead : List ℕ → Reading
+rentRead text = let a = lastNumber wideTop text in plainly (present a) (Rent (cents (a .value)))
 
 -- ---- open S|L FIRST LAST Q Q Q Q ...
+
+-- "open"
+abbrev pub openWord : List ℕ
+openWord = 111 ∷ 112 ∷ 101 ∷ 110 ∷ []
+
+-- " S"
+abbrev pub shortOption : List ℕ
+shortOption = 32 ∷ 83 ∷ []
+
+-- " L"
+abbrev pub longOption : List ℕ
+longOption = 32 ∷ 76 ∷ []
 
 abbrev pub kindChosen : ℕ → Kind
 kindChosen n = cond (eqb n 0) Short Long
@@ -96,7 +151,7 @@ openingOf k f l =
 
 unfoldable pub opening : List ℕ → Opening
 opening text =
-    let k = choice words.shortOption words.longOption text in
+    let k = choice shortOption longOption text in
     let f = number wordTop (drop (k .used) text) in
     openingOf k f (number wordTop (drop (k .used + f .used) text))
 
@@ -104,22 +159,35 @@ opening text =
 abbrev pub ends : List ℕ → ℕ → ℕ → Bool
 ends text from used = eqb (from + used) (length text)
 
-abbrev pub openedBy : List ℕ → Opening → ℕ → ℕ → Said
-openedBy text h count used =
-    whole (h .present && ends text (h .used) used && eqb (count % quantityWords) 0) (Open (h .kind) (h .period)) count 0
-
-unfoldable pub openSaid : ℕ → List ℕ → Said
-openSaid cap text =
+abbrev pub openRead : ℕ → List ℕ → Reading
+openRead cap text =
     let h = opening text in
     let list = drop (h .used) text in
-    openedBy text h (length (wordsSaid cap list)) (wordsUsed cap list)
+    let words = wordsSaid cap list in
+    withWords (h .present && ends text (h .used) (wordsUsed cap list) && eqb (length words % quantityWords) 0) (Open (h .kind) (h .period)) words
 
 -- ---- round W W W ...
 
-unfoldable pub roundSaid : ℕ → List ℕ → Said
-roundSaid cap text = whole (ends text 0 (wordsUsed cap text)) Round (length (wordsSaid cap text)) 0
+-- "round"
+abbrev pub roundWord : List ℕ
+roundWord = 114 ∷ 111 ∷ 117 ∷ 110 ∷ 100 ∷ []
+
+abbrev pub roundRead : ℕ → List ℕ → Reading
+roundRead cap text = withWords (ends text 0 (wordsUsed cap text)) Round (wordsSaid cap text)
 
 -- ---- payout DAY failed|priced P ... P
+
+-- "payout"
+abbrev pub payoutWord : List ℕ
+payoutWord = 112 ∷ 97 ∷ 121 ∷ 111 ∷ 117 ∷ 116 ∷ []
+
+-- " failed"
+abbrev pub failedOption : List ℕ
+failedOption = 32 ∷ 102 ∷ 97 ∷ 105 ∷ 108 ∷ 101 ∷ 100 ∷ []
+
+-- " priced"
+abbrev pub pricedOption : List ℕ
+pricedOption = 32 ∷ 112 ∷ 114 ∷ 105 ∷ 99 ∷ 101 ∷ 100 ∷ []
 
 abbrev pub hourOf : Field → Field → HourLine
 hourOf d h =
@@ -133,20 +201,30 @@ hourOf d h =
 unfoldable pub hourLine : List ℕ → HourLine
 hourLine text =
     let d = number wordTop text in
-    hourOf d (choice words.failedOption words.pricedOption (drop (d .used) text))
+    hourOf d (choice failedOption pricedOption (drop (d .used) text))
 
 -- "16 zone prices"
-abbrev pub paidBy : List ℕ → HourLine → ℕ → ℕ → Said
-paidBy text h count used =
-    whole (h .present && ends text (h .used) used && eqb count zones) (Payout (h .day) (h .failed)) 0 count
-
-unfoldable pub payoutSaid : ℕ → List ℕ → Said
-payoutSaid cap text =
+abbrev pub payoutRead : ℕ → List ℕ → Reading
+payoutRead most text =
     let h = hourLine text in
     let list = drop (h .used) text in
-    paidBy text h (length (pricesSaid cap list)) (pricesUsed cap list)
+    let prices = pricesSaid most list in
+    record {
+      whole = h .present && ends text (h .used) (pricesUsed most list) && eqb (length prices) zones;
+      call = Payout (h .day) (h .failed);
+      words = [];
+      prices = prices;
+    }
 
 -- ---- disburse D C ... C, recover D C ... C
+
+-- "disburse"
+abbrev pub disburseWord : List ℕ
+disburseWord = 100 ∷ 105 ∷ 115 ∷ 98 ∷ 117 ∷ 114 ∷ 115 ∷ 101 ∷ []
+
+-- "recover"
+abbrev pub recoverWord : List ℕ
+recoverWord = 114 ∷ 101 ∷ 99 ∷ 111 ∷ 118 ∷ 101 ∷ 114 ∷ []
 
 -- "32 provincial charges, 32 export charges, 32 energies at meters, 32 at interties"
 abbrev pub columnWords : ℕ
@@ -156,73 +234,61 @@ abbrev pub shareCall : Bool → ℕ → Call
 shareCall true total = Disburse (cents total)
 shareCall false total = Recover (cents total)
 
-abbrev pub sharedBy : List ℕ → Bool → Field → ℕ → ℕ → Said
-sharedBy text disburse d count used =
-    whole (present d && ends text (d .used) used && eqb count columnWords) (shareCall disburse (d .value)) count 0
-
-unfoldable pub shareSaid : ℕ → Bool → List ℕ → Said
-shareSaid cap disburse text =
+abbrev pub shareRead : ℕ → Bool → List ℕ → Reading
+shareRead cap disburse text =
     let d = number wideTop text in
     let list = drop (d .used) text in
-    sharedBy text disburse d (length (wordsSaid cap list)) (wordsUsed cap list)
+    let words = wordsSaid cap list in
+    withWords (present d && ends text (d .used) (wordsUsed cap list) && eqb (length words) columnWords) (shareCall disburse (d .value)) words
 
 -- ---- Any line. `cap` and `most` are how many words and how many prices there is room for
 
-abbrev pub saidBy : ℕ → ℕ → Verb → List ℕ → Said
-saidBy cap most verbs.Deposit text = accountSaid true text
-saidBy cap most verbs.Withdraw text = accountSaid false text
-saidBy cap most verbs.Open text = openSaid cap text
-saidBy cap most verbs.Round text = roundSaid cap text
-saidBy cap most verbs.Pay text = paySaid text
-saidBy cap most verbs.Default text = defaultSaid text
-saidBy cap most verbs.Retire text = retireSaid text
-saidBy cap most verbs.Rent text = rentSaid text
-saidBy cap most verbs.Payout text = payoutSaid most text
-saidBy cap most verbs.Disburse text = shareSaid cap true text
-saidBy cap most verbs.Recover text = shareSaid cap false text
-saidBy cap most verbs.Fresh text = Faulty
-saidBy cap most verbs.Unknown text = Faulty
+-- the form of a call's line: its first word, and what the text after that says
+pub record Form : Type 0 where
+  pub word : List ℕ
+  pub read : List ℕ → Reading
 
--- the words of its list
-abbrev pub wordsBy : ℕ → Verb → List ℕ → List ℕ
-wordsBy cap verbs.Open text = wordsSaid cap (drop (opening text .used) text)
-wordsBy cap verbs.Round text = wordsSaid cap text
-wordsBy cap verbs.Disburse text = wordsSaid cap (drop (number wideTop text .used) text)
-wordsBy cap verbs.Recover text = wordsSaid cap (drop (number wideTop text .used) text)
-wordsBy cap verbs.Deposit text = []
-wordsBy cap verbs.Withdraw text = []
-wordsBy cap verbs.Pay text = []
-wordsBy cap verbs.Default text = []
-wordsBy cap verbs.Retire text = []
-wordsBy cap verbs.Rent text = []
-wordsBy cap verbs.Payout text = []
-wordsBy cap verbs.Fresh text = []
-wordsBy cap verbs.Unknown text = []
+abbrev pub form : List ℕ → (List ℕ → Reading) → Form
+form word read = record { word = word; read = read }
+
+-- the calls that have a list
+abbrev pub listForms : ℕ → ℕ → List Form
+listForms cap most =
+    form openWord (openRead cap)
+    ∷ form roundWord (roundRead cap)
+    ∷ form payoutWord (payoutRead most)
+    ∷ form disburseWord (shareRead cap true)
+    ∷ form recoverWord (shareRead cap false)
+    ∷ []
+
+-- and those that have none
+abbrev pub plainForms : List Form
+plainForms =
+    form depositWord (accountRead true)
+    ∷ form withdrawWord (accountRead false)
+    ∷ form payWord payRead
+    ∷ form defaultWord defaultRead
+    ∷ form retireWord retireRead
+    ∷ form rentWord rentRead
+    ∷ []
+
+-- a line is read by the first form whose word it begins with; where there is none it says nothing
+abbrev pub readBy : List Form → List ℕ → Reading
+readBy [] line = plainly false Round
+readBy (f ∷ fs) line = cond (startsWith (f .word) line) (f .read (drop (length (f .word)) line)) (readBy fs line)
+
+-- "payout" is tried before "pay", with which it begins
+unfoldable pub lineRead : ℕ → ℕ → List ℕ → Reading
+lineRead cap most line = readBy (listForms cap most ++ plainForms) line
+
+-- what a line says
+abbrev pub lineSaid : ℕ → ℕ → List ℕ → Said
+lineSaid cap most line = saidOf (lineRead cap most line)
+
+-- the words of its list, also where it says nothing
+abbrev pub lineWords : ℕ → ℕ → List ℕ → List ℕ
+lineWords cap most line = lineRead cap most line .words
 
 -- and its prices
-abbrev pub pricesBy : ℕ → Verb → List ℕ → List ℤ
-pricesBy most verbs.Payout text = pricesSaid most (drop (hourLine text .used) text)
-pricesBy most verbs.Deposit text = []
-pricesBy most verbs.Withdraw text = []
-pricesBy most verbs.Open text = []
-pricesBy most verbs.Round text = []
-pricesBy most verbs.Pay text = []
-pricesBy most verbs.Default text = []
-pricesBy most verbs.Retire text = []
-pricesBy most verbs.Rent text = []
-pricesBy most verbs.Disburse text = []
-pricesBy most verbs.Recover text = []
-pricesBy most verbs.Fresh text = []
-pricesBy most verbs.Unknown text = []
-
-abbrev pub afterVerb : List ℕ → Named → List ℕ
-afterVerb line n = drop (n .used) line
-
-unfoldable pub lineSaid : ℕ → ℕ → List ℕ → Said
-lineSaid cap most line = saidBy cap most (words.verbAt line .verb) (afterVerb line (words.verbAt line))
-
-unfoldable pub lineWords : ℕ → List ℕ → List ℕ
-lineWords cap line = wordsBy cap (words.verbAt line .verb) (afterVerb line (words.verbAt line))
-
-unfoldable pub linePrices : ℕ → List ℕ → List ℤ
-linePrices most line = pricesBy most (words.verbAt line .verb) (afterVerb line (words.verbAt line))
+abbrev pub linePrices : ℕ → ℕ → List ℕ → List ℤ
+linePrices cap most line = lineRead cap most line .prices

@@ -1,3 +1,2 @@
 -- The lines of a journal.
-pub mod Verbs
 pub mod CallLine

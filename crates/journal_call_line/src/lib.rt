@@ -1,16 +1,16 @@
 // The lines of a journal: what each says, read into a call and its lists.
 mod heads;
 mod plain;
-mod verbs;
 
 use engine::calls::Call;
 use journal_fields::WIDE_TOP;
 use market::engine::Engine;
 use market::units::Cents;
-use verbs::Verb;
+ghost use mathlib.Core.List.{List};
 ghost use mathlib.Core.Path.{_≡_};
-ghost use lib.ListN.{length, drop};
-ghost use Rattle.journal_fields.specs.JournalFields.{wideTop, number, wordsSaid, pricesSaid};
+ghost use Prim.Native.Nat.{ℕ};
+ghost use lib.IntN.{ℤ};
+ghost use lib.ListN.{length};
 ghost use Rattle.market.specs.Books.{withFront};
 ghost use Rattle.journal_call_line.specs.CallLine as rules;
 
@@ -24,9 +24,9 @@ pub enum Said {
 }
 
 fn open_line(text: &[u8], words: &mut [u32]) -> Said
-    ensures said { λ r. ⌜ r ≡ rules.openSaid (length (now (words .entry))) (now (text .entry)) ⌝ }
-    ensures list { λ r. ⌜ now (words .exit)
-        ≡ withFront (wordsSaid (length (now (words .entry))) (drop (rules.opening (now (text .entry)) .used) (now (text .entry)))) (now (words .entry)) ⌝ }
+    ensures said { λ r. ⌜ r ≡ rules.saidOf (rules.openRead (length (now (words .entry))) (now (text .entry))) ⌝ }
+    ensures list { λ r. ⌜
+        now (words .exit) ≡ withFront (rules.openRead (length (now (words .entry))) (now (text .entry)) .words) (now (words .entry)) ⌝ }
 {
     let head = heads::opening_line(text);
     let run = journal_number_lists::words_at(text, head.used, words);
@@ -41,8 +41,9 @@ fn open_line(text: &[u8], words: &mut [u32]) -> Said
 }
 
 fn round_line(text: &[u8], words: &mut [u32]) -> Said
-    ensures said { λ r. ⌜ r ≡ rules.roundSaid (length (now (words .entry))) (now (text .entry)) ⌝ }
-    ensures list { λ r. ⌜ now (words .exit) ≡ withFront (wordsSaid (length (now (words .entry))) (now (text .entry))) (now (words .entry)) ⌝ }
+    ensures said { λ r. ⌜ r ≡ rules.saidOf (rules.roundRead (length (now (words .entry))) (now (text .entry))) ⌝ }
+    ensures list { λ r. ⌜
+        now (words .exit) ≡ withFront (rules.roundRead (length (now (words .entry))) (now (text .entry)) .words) (now (words .entry)) ⌝ }
 {
     let run = journal_number_lists::words_at(text, 0, words);
     if 0 + run.used != text.len() {
@@ -52,10 +53,9 @@ fn round_line(text: &[u8], words: &mut [u32]) -> Said
 }
 
 fn payout_line(text: &[u8], prices: &mut [i64]) -> Said
-    ensures said { λ r. ⌜ r ≡ rules.payoutSaid (length (now (prices .entry))) (now (text .entry)) ⌝ }
-    ensures list { λ r. ⌜ now (prices .exit)
-        ≡ withFront (pricesSaid (length (now (prices .entry))) (drop (rules.hourLine (now (text .entry)) .used) (now (text .entry))))
-        (now (prices .entry)) ⌝ }
+    ensures said { λ r. ⌜ r ≡ rules.saidOf (rules.payoutRead (length (now (prices .entry))) (now (text .entry))) ⌝ }
+    ensures list { λ r. ⌜
+        now (prices .exit) ≡ withFront (rules.payoutRead (length (now (prices .entry))) (now (text .entry)) .prices) (now (prices .entry)) ⌝ }
 {
     let head = heads::hour_line(text);
     let run = journal_number_lists::prices_at(text, head.used, prices);
@@ -85,9 +85,9 @@ fn share_call(disburse: bool, total: u64) -> Call
 
 // A disbursement or a recovery.
 fn share_line(text: &[u8], words: &mut [u32], disburse: bool) -> Said
-    ensures said { λ r. ⌜ r ≡ rules.shareSaid (length (now (words .entry))) disburse (now (text .entry)) ⌝ }
-    ensures list { λ r. ⌜ now (words .exit)
-        ≡ withFront (wordsSaid (length (now (words .entry))) (drop (number wideTop (now (text .entry)) .used) (now (text .entry)))) (now (words .entry)) ⌝ }
+    ensures said { λ r. ⌜ r ≡ rules.saidOf (rules.shareRead (length (now (words .entry))) disburse (now (text .entry))) ⌝ }
+    ensures list { λ r. ⌜
+        now (words .exit) ≡ withFront (rules.shareRead (length (now (words .entry))) disburse (now (text .entry)) .words) (now (words .entry)) ⌝ }
 {
     let total = journal_fields::number_at(text, 0, WIDE_TOP);
     let run = journal_number_lists::words_at(text, total.used, words);
@@ -97,28 +97,52 @@ fn share_line(text: &[u8], words: &mut [u32], disburse: bool) -> Said
     Said::Called(share_call(disburse, total.value), run.count, 0)
 }
 
-// What a line says; its words and its prices are put at the front of the two lists.
-pub fn line_said(line: &[u8], words: &mut [u32], prices: &mut [i64]) -> Said
-    ensures said { λ r. ⌜ r ≡ rules.lineSaid (length (now (words .entry))) (length (now (prices .entry))) (now (line .entry)) ⌝ }
-    ensures words { λ r. ⌜ now (words .exit) ≡ withFront (rules.lineWords (length (now (words .entry))) (now (line .entry))) (now (words .entry)) ⌝ }
-    ensures prices { λ r. ⌜ now (prices .exit) ≡ withFront (rules.linePrices (length (now (prices .entry))) (now (line .entry))) (now (prices .entry)) ⌝ }
+// The line of a call that has no list, whatever the lists are.
+fn plain_line(line: &[u8]) -> Said
+    ensures { λ r. ⌜
+        ((words : List ℕ) (prices : List ℤ) → rules.ReadInto (rules.readBy rules.plainForms (now (line .entry))) r words words prices prices) ⌝ }
 {
-    let named = verbs::verb_at(line);
-    let text = journal_fields::behind(line, named.used);
-    let verb = named.verb;
-    match verb {
-        Verb::Deposit => plain::account_line(text, true),
-        Verb::Withdraw => plain::account_line(text, false),
-        Verb::Open => open_line(text, words),
-        Verb::Round => round_line(text, words),
-        Verb::Pay => plain::pay_line(text),
-        Verb::Default => plain::default_line(text),
-        Verb::Retire => plain::retire_line(text),
-        Verb::Rent => plain::rent_line(text),
-        Verb::Payout => payout_line(text, prices),
-        Verb::Disburse => share_line(text, words, true),
-        Verb::Recover => share_line(text, words, false),
-        Verb::Fresh => Said::Faulty,
-        Verb::Unknown => Said::Faulty,
+    if text_fields::starts_with(line, 0, b"deposit") {
+        return plain::account_line(journal_fields::behind(line, 7), true);
     }
+    if text_fields::starts_with(line, 0, b"withdraw") {
+        return plain::account_line(journal_fields::behind(line, 8), false);
+    }
+    if text_fields::starts_with(line, 0, b"pay") {
+        return plain::pay_line(journal_fields::behind(line, 3));
+    }
+    if text_fields::starts_with(line, 0, b"default") {
+        return plain::default_line(journal_fields::behind(line, 7));
+    }
+    if text_fields::starts_with(line, 0, b"retire") {
+        return plain::retire_line(journal_fields::behind(line, 6));
+    }
+    if text_fields::starts_with(line, 0, b"rent") {
+        return plain::rent_line(journal_fields::behind(line, 4));
+    }
+    Said::Faulty
+}
+
+// What a line says; its words and its prices are put at the front of the two lists. `payout` is tried before `pay`, with which it
+// begins.
+pub fn line_said(line: &[u8], words: &mut [u32], prices: &mut [i64]) -> Said
+    ensures { λ r. ⌜ rules.ReadInto (rules.lineRead (length (now (words .entry))) (length (now (prices .entry))) (now (line .entry))) r
+        (now (words .entry)) (now (words .exit)) (now (prices .entry)) (now (prices .exit)) ⌝ }
+{
+    if text_fields::starts_with(line, 0, b"open") {
+        return open_line(journal_fields::behind(line, 4), words);
+    }
+    if text_fields::starts_with(line, 0, b"round") {
+        return round_line(journal_fields::behind(line, 5), words);
+    }
+    if text_fields::starts_with(line, 0, b"payout") {
+        return payout_line(journal_fields::behind(line, 6), prices);
+    }
+    if text_fields::starts_with(line, 0, b"disburse") {
+        return share_line(journal_fields::behind(line, 8), words, true);
+    }
+    if text_fields::starts_with(line, 0, b"recover") {
+        return share_line(journal_fields::behind(line, 7), words, false);
+    }
+    plain_line(line)
 }

@@ -36,7 +36,7 @@ fn account_call(deposit: bool, bidder: u32, funds: Funds, amount: u64) -> Call
 
 // A deposit or a withdrawal.
 pub fn account_line(text: &[u8], deposit: bool) -> Said
-    ensures { λ r. ⌜ r ≡ rules.accountSaid deposit (now (text .entry)) ⌝ }
+    ensures { λ r. ⌜ r ≡ rules.saidOf (rules.accountRead deposit (now (text .entry))) ⌝ }
 {
     let bidder = journal_fields::number_at(text, 0, text_fields::WORD_TOP);
     let funds = journal_fields::choice_at(text, bidder.used, b" cash", b" letter");
@@ -54,7 +54,7 @@ pub fn account_line(text: &[u8], deposit: bool) -> Said
 }
 
 pub fn pay_line(text: &[u8]) -> Said
-    ensures { λ r. ⌜ r ≡ rules.paySaid (now (text .entry)) ⌝ }
+    ensures { λ r. ⌜ r ≡ rules.saidOf (rules.payRead (now (text .entry))) ⌝ }
 {
     let bidder = journal_fields::number_at(text, 0, text_fields::WORD_TOP);
     let amount = journal_fields::last_number(text, bidder.used, WIDE_TOP);
@@ -69,7 +69,7 @@ pub fn pay_line(text: &[u8]) -> Said
 }
 
 pub fn default_line(text: &[u8]) -> Said
-    ensures { λ r. ⌜ r ≡ rules.defaultSaid (now (text .entry)) ⌝ }
+    ensures { λ r. ⌜ r ≡ rules.saidOf (rules.defaultRead (now (text .entry))) ⌝ }
 {
     let bidder = journal_fields::last_number(text, 0, text_fields::WORD_TOP);
     if bidder.used == 0 {
@@ -82,7 +82,7 @@ pub fn default_line(text: &[u8]) -> Said
 }
 
 pub fn retire_line(text: &[u8]) -> Said
-    ensures { λ r. ⌜ r ≡ rules.retireSaid (now (text .entry)) ⌝ }
+    ensures { λ r. ⌜ r ≡ rules.saidOf (rules.retireRead (now (text .entry))) ⌝ }
 {
     let day = journal_fields::last_number(text, 0, text_fields::WORD_TOP);
     if day.used == 0 {
@@ -95,7 +95,7 @@ pub fn retire_line(text: &[u8]) -> Said
 }
 
 pub fn rent_line(text: &[u8]) -> Said
-    ensures { λ r. ⌜ r ≡ rules.rentSaid (now (text .entry)) ⌝ }
+    ensures { λ r. ⌜ r ≡ rules.saidOf (rules.rentRead (now (text .entry))) ⌝ }
 {
     let amount = journal_fields::last_number(text, 0, WIDE_TOP);
     if amount.used == 0 {

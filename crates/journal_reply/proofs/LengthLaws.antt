@@ -3,13 +3,14 @@ use mathlib.Core.List.{List, [], _∷_, _++_}
 use Prim.Native.Nat.{ℕ, zero, suc, _+_, _*_, _≤_}
 use native.Mathlib.Omega.{arith}
 use lib.ListN.{length, take, drop, length-append, length-take}
+use Rattle.market.specs.Answers.{bidsIn}
 use Rattle.market.specs.Limits.{bidderLimit, bidLimit, bidAnswerSize, pathLimit, pathAnswerSize}
 use Rattle.market.specs.declared.answer.Answer.{Answer}
 use Rattle.market.specs.declared.answer.Answer.the-variants.{Refused, Done, Drawn, Bids}
 use Rattle.text_fields.specs.Fields.{newline}
 use Rattle.journal_rows.specs.Rows.{row, rows}
 use Rattle.journal_rows.proofs.RowLaws.{row-most, last-row-most, rows-most}
-use Rattle.journal_reply.specs.Replies.{replyRoom, bidsIn, pathRowsText, roundReply, doneText, replyText}
+use Rattle.journal_reply.specs.Replies.{replyRoom, pathRowsText, roundReply, doneText, replyText}
 use Rattle.journal_reply.specs.Words as words
 use Rattle.journal_reply.specs.declared.Told.{Told}
 use Rattle.journal_reply.specs.declared.Told.the-variants.{Nothing, Listed}

@@ -15,13 +15,6 @@ use Rattle.journal_reply.specs.declared.Told.the-variants.{Nothing, List
 abbrev pub replyRoom : ℕ
 replyRoom = 65536
 
--- how many bids an answer tells of
-abbrev pub bidsIn : Answer → ℕ
-bidsIn (Refused n) = 0
-bidsIn Done = 0
-bidsIn (Drawn d) = 0
-bidsIn (Bids n) = n
-
 -- "after the slash, of each path, offered and sold in this round, and price or 0"
 abbrev pub pathRowsText : ℕ → List ℕ → List ℕ
 pathRowsText zero results = []

@@ -3,9 +3,10 @@ use market::answer::Answer;
 use market::engine::Engine;
 ghost use Prim.Native.Nat.{_+_, _*_, _≤_};
 ghost use lib.ListN.{length};
+ghost use Rattle.market.specs.Answers.{bidsIn};
 ghost use Rattle.market.specs.Limits.{bidderLimit, bidLimit, bidAnswerSize, pathLimit, pathAnswerSize};
 ghost use Rattle.text_numbers.specs.Put.{Put};
-ghost use Rattle.journal_reply.specs.Replies.{replyRoom, bidsIn, pathRowsText, roundReply, doneText, replyText};
+ghost use Rattle.journal_reply.specs.Replies.{replyRoom, pathRowsText, roundReply, doneText, replyText};
 
 // What an answered call tells besides its number: nothing, or a list.
 pub enum Told {

@@ -1,5 +1,4 @@
 -- Laws about a line of a journal, run.
-pub mod FewBids
 pub mod ColumnLaws
 pub mod OfferLaws
 pub mod LineLaws

@@ -1,33 +1,36 @@
 -- Laws about a line of a journal: what a call is lent, and the line of a fresh book.
 use mathlib.Core.Path.{_≡_, refl, sym, _∙_, ap}
 use mathlib.Core.Bool.{Bool, true, false, cond}
-use mathlib.Core.List.{List, []}
+use mathlib.Core.List.{List, [], _∷_}
+use mathlib.Core.Logic.{⊎-elim}
 use Prim.Native.Nat.{ℕ, zero, suc}
 use native.Mathlib.Omega.{arith}
 use lib.IntN.{ℤ}
 use lib.ListN.{length, drop, replicate}
-use Rattle.market.specs.Answers.{firstOf, decided, answered}
+use denote.Enum.Declared.{tagOf}
+use types.Run.{OneOf}
+use Rattle.market.specs.Answers.{bidsIn, firstOf, decided, answered}
 use Rattle.market.specs.Fresh.{freshRefusals, freshBook, noBook, fresh}
-use Rattle.market.specs.Limits.{bidderLimit, bidAnswerWords, pathAnswerWords, scratchWords, zones}
+use Rattle.market.specs.Limits.{bidderLimit, bidAnswerWords, pathAnswerWords, scratchWords}
 use Rattle.market.specs.declared.book.Book.{Book}
 use Rattle.market.specs.declared.book.Route.{Route}
 use Rattle.market.specs.declared.answer.Outcome.{Outcome}
 use Rattle.market.specs.Books.{pathsOf}
 use Rattle.engine.specs.Lent.{lent}
-use Rattle.engine.specs.Step.{Left, step}
+use Rattle.call_rules.specs.Steps.{Left}
+use Rattle.engine.specs.Step.{step}
 use Rattle.engine.specs.declared.calls.Call.{Call}
-use Rattle.journal_reply.specs.Replies.{bidsIn, replyText}
+use Rattle.journal_reply.specs.Replies.{replyText}
 use Rattle.journal_reply.specs.declared.Told.{Told}
 use Rattle.journal_reply.specs.declared.Told.the-variants.{Nothing, Listed}
 use Rattle.journal_fresh_line.specs.FreshLines.{freshSaid}
 use Rattle.journal_fresh_line.specs.declared.FreshLine.{FreshLine}
-use Rattle.journal_call_line.specs.CallLine.{lineSaid, lineWords, linePrices}
-use Rattle.journal_call_line.specs.Verbs.{freshWord}
 use Rattle.journal_step.specs.declared.Journal.{Journal}
 use Rattle.journal_step.specs.declared.answers.Tell.{Tell}
 use Rattle.journal_step.specs.declared.answers.Tell.the-variants as tells
+use Rattle.journal_step.proofs.answers.Tell.{the-type}
 use Rattle.journal_step.specs.LineStep.{column, lentWith, isRound, leftBy, offersOf, tellBy, textBy, callText, Stepped}
-use Rattle.journal_step.specs.LineStep.{turnedAway, freshState, freshBy, freshStep, wordRoom, saidStep, isFresh, lineStep}
+use Rattle.journal_step.specs.LineStep.{turnedAway, freshState, freshBy, freshStep, callLineStep, freshWord, isFresh, lineStep}
 
 pub lent-same :
     (list :
@@ -38,7 +41,7 @@ lent-same list prices amounts answers results scratch p q r s a b c d = rw (a, b
 -- what a call leaves where its lists are as long as it takes them; `t` says whether it is a round
 pub left-same :
     (b :
-    Book) (register : List ℕ) (call : Call) (list : List ℕ) (prices : List ℤ) (t : Bool) → isRound call ≡ t
+    Book) (register : List ℕ) (call : Call) (list : List ℕ) (prices : List ℤ) (t : Bool) → isRound (tellBy call) ≡ t
     → step b register call (lentWith list prices (replicate bidderLimit 0) (replicate (cond t bidAnswerWords 0) 0) (replicate pathAnswerWords 0) (replicate (cond t scratchWords 0) 0))
     ≡ leftBy b register call list prices
 left-same b register call list prices t e =
@@ -80,8 +83,15 @@ module _ (o : Outcome) (amounts answers results : List ℕ) (count : ℕ) (e : c
   counted : (how : Told) (list : List ℕ) → replyText (o .answer) how list answers count results ≡ replyText (o .answer) how list answers (length (pathsOf (o .book))) results
   counted how list = ap (λ (n : ℕ). replyText (o .answer) how list answers n results) e
 
-  pub text-nothing : tell ≡ tells.Nothing → replyText (o .answer) Nothing [] answers count results ≡ textBy tell o amounts answers results
-  text-nothing is = counted Nothing [] ∙ told tells.Nothing is
+  -- the first arm is that of its two cases without a list
+  pub text-bare : OneOf (0 ∷ 2 ∷ []) (tagOf the-type tell) → replyText (o .answer) Nothing [] answers count results ≡ textBy tell o amounts answers results
+  text-bare one = counted Nothing [] ∙ go tell one
+    where
+      go : (t : Tell) → OneOf (0 ∷ 2 ∷ []) (tagOf the-type t) → textBy tells.Nothing o amounts answers results ≡ textBy t o amounts answers results
+      go tells.Nothing h = refl
+      go tells.Offers h = absurd (⊎-elim (λ e. omega arith) (λ e. omega arith) h)
+      go tells.Awards h = refl
+      go tells.Amounts h = absurd (⊎-elim (λ e. omega arith) (λ e. omega arith) h)
 
   pub text-offers : tell ≡ tells.Offers → (list : List ℕ) → list ≡ offersOf (o .book) → replyText (o .answer) Listed list answers count results ≡ textBy tell o amounts answers results
   text-offers is list l =
@@ -94,15 +104,10 @@ module _ (o : Outcome) (amounts answers results : List ℕ) (count : ℕ) (e : c
 
 -- the reply to a call is made of what the call left
 pub call-text :
-    (call :
-    Call) (left : Left) (tell : Tell) (o : Outcome) (amounts answers results : List ℕ) → tell ≡ tellBy call → o ≡ left .outcome → amounts ≡ left .amounts → answers ≡ left .answers
-    → results ≡ left .results → textBy tell o amounts answers results ≡ callText call left
-call-text call left tell o amounts answers results t p q r s =
-    ap (λ (x : Tell). textBy x o amounts answers results) t
-    ∙ ap (λ (x : Outcome). textBy (tellBy call) x amounts answers results) p
-    ∙ ap (λ (l : List ℕ). textBy (tellBy call) (left .outcome) l answers results) q
-    ∙ ap (λ (l : List ℕ). textBy (tellBy call) (left .outcome) (left .amounts) l results) r
-    ∙ ap (λ (l : List ℕ). textBy (tellBy call) (left .outcome) (left .amounts) (left .answers) l) s
+    (call : Call) (now left : Left) (tell : Tell) → tell ≡ tellBy call → now ≡ left
+    → textBy tell (now .outcome) (now .lists .amounts) (now .lists .answers) (now .lists .results) ≡ callText call left
+call-text call now left tell is same =
+    ap (λ (t : Tell). textBy t (now .outcome) (now .lists .amounts) (now .lists .answers) (now .lists .results)) is ∙ ap (callText call) same
 
 -- the line of a fresh book does not look at the register, and leaves it as it was
 module _ (j : Journal) (register : List ℕ) (f : FreshLine) where
@@ -132,16 +137,13 @@ module _ (j : Journal) (register : List ℕ) (f : FreshLine) where
 
 -- the line of a fresh book, and any other line
 module _ (j : Journal) (register line : List ℕ) where
-  abbrev asSaid : Stepped
-  asSaid = saidStep j register (lineSaid wordRoom zones line) (lineWords wordRoom line) (linePrices zones line)
-
   abbrev asFresh : Stepped
   asFresh = freshStep j register (freshSaid (drop (length freshWord) line))
 
   pub line-fresh : isFresh line ≡ true → asFresh ≡ lineStep j register line
   unfolding lineStep
-  line-fresh e = ap (λ (t : Bool). cond t asFresh asSaid) (sym e)
+  line-fresh e = ap (λ (t : Bool). cond t asFresh (callLineStep j register line)) (sym e)
 
-  pub line-said : isFresh line ≡ false → asSaid ≡ lineStep j register line
+  pub line-said : isFresh line ≡ false → callLineStep j register line ≡ lineStep j register line
   unfolding lineStep
-  line-said e = ap (λ (t : Bool). cond t asFresh asSaid) (sym e)
+  line-said e = ap (λ (t : Bool). cond t asFresh (callLineStep j register line)) (sym e)

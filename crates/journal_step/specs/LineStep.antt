@@ -1,6 +1,6 @@
 -- docs/JOURNAL.md: one line of a journal, the reply to it, and the state after it. The calls are the engine's own, by `step`.
 use mathlib.Core.Bool.{Bool, true, false, cond}
-use mathlib.Core.List.{List, [], map}
+use mathlib.Core.List.{List, [], _∷_, map}
 use Prim.Native.Nat.{ℕ, zero, suc, _*_}
 use lib.Dec.{ltb}
 use lib.IntN.{ℤ}
@@ -13,7 +13,8 @@ use Rattle.market.specs.declared.answer.Answer.the-variants.{Refused}
 use Rattle.market.specs.declared.answer.Outcome.{Outcome}
 use Rattle.market.specs.declared.book.Book.{Book}
 use Rattle.engine.specs.Lent.{Lent, lent}
-use Rattle.engine.specs.Step.{Left, step}
+use Rattle.call_rules.specs.Steps.{Left}
+use Rattle.engine.specs.Step.{step}
 use Rattle.engine.specs.declared.calls.Call.{Call}
 use Rattle.engine.specs.declared.calls.Call.the-variants.{Deposit, Withdraw, Open, Round, Pay, Default, Retire, Rent, Payout, Disburse, Recover}
 use Rattle.text_fields.specs.Fields.{startsWith}
@@ -22,12 +23,34 @@ use Rattle.journal_reply.specs.declared.Told.the-variants.{Nothing, Listed}
 use Rattle.journal_fresh_line.specs.FreshLines.{freshSaid}
 use Rattle.journal_fresh_line.specs.declared.FreshLine.{FreshLine}
 use Rattle.journal_call_line.specs.CallLine.{lineSaid, lineWords, linePrices}
-use Rattle.journal_call_line.specs.Verbs.{freshWord}
 use Rattle.journal_call_line.specs.declared.Said.{Said}
 use Rattle.journal_call_line.specs.declared.Said.the-variants.{Faulty, Called}
 use Rattle.journal_step.specs.declared.Journal.{Journal}
 use Rattle.journal_step.specs.declared.answers.Tell.{Tell}
 use Rattle.journal_step.specs.declared.answers.Tell.the-variants as tells
+
+-- ---- What a call tells
+
+-- what an answered call tells besides its number
+abbrev pub tellBy : Call → Tell
+tellBy (Deposit bidder to amount) = tells.Nothing
+tellBy (Withdraw bidder from amount) = tells.Nothing
+tellBy (Open kind period) = tells.Offers
+tellBy Round = tells.Awards
+tellBy (Pay bidder amount) = tells.Nothing
+tellBy (Default bidder) = tells.Nothing
+tellBy (Retire day) = tells.Nothing
+tellBy (Rent amount) = tells.Nothing
+tellBy (Payout day failed) = tells.Amounts
+tellBy (Disburse total) = tells.Amounts
+tellBy (Recover total) = tells.Amounts
+
+-- what a round tells: its bids and what it awarded
+abbrev pub isRound : Tell → Bool
+isRound tells.Nothing = false
+isRound tells.Offers = false
+isRound tells.Awards = true
+isRound tells.Amounts = false
 
 -- ---- What a call is lent
 
@@ -56,23 +79,9 @@ lentWith list prices amounts answers results scratch =
     results
     scratch
 
--- whether a call is a round: only a round takes a list for the answers of bids, and a scratch
-abbrev pub isRound : Call → Bool
-isRound (Deposit bidder to amount) = false
-isRound (Withdraw bidder from amount) = false
-isRound (Open kind period) = false
-isRound Round = true
-isRound (Pay bidder amount) = false
-isRound (Default bidder) = false
-isRound (Retire day) = false
-isRound (Rent amount) = false
-isRound (Payout day failed) = false
-isRound (Disburse total) = false
-isRound (Recover total) = false
-
--- as many zeros as a round is lent, and none for any other call
+-- only a round is lent a list for the answers of bids, and a scratch: so many zeros, and none for any other call
 abbrev pub forRound : Call → ℕ → List ℕ
-forRound call n = replicate (cond (isRound call) n 0) 0
+forRound call n = replicate (cond (isRound (tellBy call)) n 0) 0
 
 -- what a call leaves where its lists for answers are full of zeros
 abbrev pub leftBy : Book → List ℕ → Call → List ℕ → List ℤ → Left
@@ -81,20 +90,6 @@ leftBy b register call list prices =
     (lentWith list prices (replicate bidderLimit 0) (forRound call bidAnswerWords) (replicate pathAnswerWords 0) (forRound call scratchWords))
 
 -- ---- The reply to a call
-
--- what an answered call tells besides its number
-abbrev pub tellBy : Call → Tell
-tellBy (Deposit bidder to amount) = tells.Nothing
-tellBy (Withdraw bidder from amount) = tells.Nothing
-tellBy (Open kind period) = tells.Offers
-tellBy Round = tells.Nothing
-tellBy (Pay bidder amount) = tells.Nothing
-tellBy (Default bidder) = tells.Nothing
-tellBy (Retire day) = tells.Nothing
-tellBy (Rent amount) = tells.Nothing
-tellBy (Payout day failed) = tells.Amounts
-tellBy (Disburse total) = tells.Amounts
-tellBy (Recover total) = tells.Amounts
 
 -- a number of paths, at most as many as a book has slots
 abbrev pub withinSlots : ℕ → ℕ
@@ -106,10 +101,11 @@ offersOf b = map offerOf (pathsOf b)
 abbrev pub textBy : Tell → Outcome → List ℕ → List ℕ → List ℕ → List ℕ
 textBy tells.Nothing o amounts answers results = replyText (o .answer) Nothing [] answers (length (pathsOf (o .book))) results
 textBy tells.Offers o amounts answers results = replyText (o .answer) Listed (offersOf (o .book)) answers (length (pathsOf (o .book))) results
+textBy tells.Awards o amounts answers results = replyText (o .answer) Nothing [] answers (length (pathsOf (o .book))) results
 textBy tells.Amounts o amounts answers results = replyText (o .answer) Listed amounts answers (length (pathsOf (o .book))) results
 
 abbrev pub callText : Call → Left → List ℕ
-callText call left = textBy (tellBy call) (left .outcome) (left .amounts) (left .answers) (left .results)
+callText call left = textBy (tellBy call) (left .outcome) (left .lists .amounts) (left .lists .answers) (left .lists .results)
 
 -- ---- A line
 
@@ -160,19 +156,26 @@ abbrev pub saidStep : Journal → List ℕ → Said → List ℕ → List ℤ �
 saidStep j register Faulty list prices = turnedAway j register
 saidStep j register (Called call n m) list prices = callStep (j .ready) j register call list prices
 
+-- a line that is not that of a fresh book
+abbrev pub callLineStep : Journal → List ℕ → List ℕ → Stepped
+callLineStep j register line =
+    saidStep j register (lineSaid wordRoom zones line) (lineWords wordRoom zones line) (linePrices wordRoom zones line)
+
+-- "fresh"
+abbrev pub freshWord : List ℕ
+freshWord = 102 ∷ 114 ∷ 101 ∷ 115 ∷ 104 ∷ []
+
 -- whether a line is that of a fresh book
 abbrev pub isFresh : List ℕ → Bool
 isFresh line = startsWith freshWord line
 
 unfoldable pub lineStep : Journal → List ℕ → List ℕ → Stepped
 lineStep j register line =
-    cond (isFresh line)
-    (freshStep j register (freshSaid (drop (length freshWord) line)))
-    (saidStep j register (lineSaid wordRoom zones line) (lineWords wordRoom line) (linePrices zones line))
+    cond (isFresh line) (freshStep j register (freshSaid (drop (length freshWord) line))) (callLineStep j register line)
 
 -- the words and prices that a line itself has, which its room then holds at the front
 abbrev pub ownWords : List ℕ → List ℕ
-ownWords line = cond (isFresh line) [] (lineWords wordRoom line)
+ownWords line = cond (isFresh line) [] (lineWords wordRoom zones line)
 
 abbrev pub ownPrices : List ℕ → List ℤ
-ownPrices line = cond (isFresh line) [] (linePrices zones line)
+ownPrices line = cond (isFresh line) [] (linePrices wordRoom zones line)

@@ -8,16 +8,18 @@ ghost use mathlib.Core.Path.{_≡_};
 ghost use mathlib.Core.List.{map};
 ghost use Prim.Native.Nat.{_*_, _≤_};
 ghost use lib.ListN.{length, take};
+ghost use Rattle.market.specs.Answers.{bidsIn};
 ghost use Rattle.market.specs.Books.{offerOf};
 ghost use Rattle.market.specs.Limits.{bidderLimit, bidLimit, bidAnswerSize, pathAnswerWords, pathLimit};
 ghost use Rattle.text_numbers.specs.Put.{Put};
-ghost use Rattle.journal_reply.specs.Replies.{bidsIn, replyRoom};
+ghost use Rattle.journal_reply.specs.Replies.{replyRoom};
 ghost use Rattle.journal_step.specs.LineStep as rules;
 
-// What an answered call tells besides its number: nothing, what each path offers, or 32 amounts.
+// What an answered call tells besides its number: nothing, what each path offers, what a round awards, or 32 amounts.
 pub enum Tell {
     Nothing,
     Offers,
+    Awards,
     Amounts,
 }
 
@@ -42,7 +44,7 @@ pub fn tell_of(call: Call) -> Tell
             amount: _,
         } => Tell::Nothing,
         Call::Open { kind: _, period: _ } => Tell::Offers,
-        Call::Round => Tell::Nothing,
+        Call::Round => Tell::Awards,
         Call::Pay {
             bidder: _,
             amount: _,
@@ -56,33 +58,15 @@ pub fn tell_of(call: Call) -> Tell
     }
 }
 
-// Whether a call is a round.
-pub fn is_round(call: Call) -> bool
-    ensures { λ r. ⌜ r ≡ rules.isRound call ⌝ }
+// Whether that is what a round tells.
+pub fn is_round(tell: Tell) -> bool
+    ensures { λ r. ⌜ r ≡ rules.isRound tell ⌝ }
 {
-    match call {
-        Call::Deposit {
-            bidder: _,
-            to: _,
-            amount: _,
-        } => false,
-        Call::Withdraw {
-            bidder: _,
-            from: _,
-            amount: _,
-        } => false,
-        Call::Open { kind: _, period: _ } => false,
-        Call::Round => true,
-        Call::Pay {
-            bidder: _,
-            amount: _,
-        } => false,
-        Call::Default { bidder: _ } => false,
-        Call::Retire { day: _ } => false,
-        Call::Rent { amount: _ } => false,
-        Call::Payout { day: _, failed: _ } => false,
-        Call::Disburse { total: _ } => false,
-        Call::Recover { total: _ } => false,
+    match tell {
+        Tell::Nothing => false,
+        Tell::Offers => false,
+        Tell::Awards => true,
+        Tell::Amounts => false,
     }
 }
 
@@ -135,7 +119,7 @@ pub fn put_answer(
     let paths = offers.count;
     let slots = offers.slots;
     match tell {
-        Tell::Nothing => journal_reply::put_reply(
+        Tell::Nothing | Tell::Awards => journal_reply::put_reply(
             out,
             answer,
             Told::Nothing,

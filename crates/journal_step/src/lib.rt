@@ -13,13 +13,15 @@ ghost use mathlib.Core.Path.{_≡_};
 ghost use mathlib.Core.List.{[]};
 ghost use Prim.Native.Nat.{_<_, _≤_};
 ghost use lib.ListN.{length, take, replicate};
-ghost use Rattle.market.specs.Limits.{bidderLimit, bidAnswerWords, pathAnswerWords, zones};
+ghost use Rattle.market.specs.Limits.{bidderLimit, pathAnswerWords, zones};
 ghost use Rattle.text_numbers.specs.Put.{putAt};
+ghost use Rattle.call_rules.specs.Rule.{lists};
+ghost use Rattle.call_rules.specs.Steps.{leaving};
 ghost use Rattle.engine.specs.Step.{step};
 ghost use Rattle.journal_reply.specs.Replies.{replyRoom};
 ghost use Rattle.market.specs.Books.{withFront};
 ghost use Rattle.journal_fresh_line.specs.FreshLines.{freshSaid};
-ghost use Rattle.journal_call_line.specs.CallLine.{lineSaid, lineWords, linePrices};
+ghost use Rattle.journal_call_line.specs.CallLine.{lineWords, linePrices};
 ghost use Rattle.journal_step.specs.LineStep as rules;
 
 // How many bytes a line may have before its byte 10.
@@ -70,26 +72,10 @@ fn call_lent(
     results: &mut [u64],
     scratch: &mut [u32],
 ) -> Outcome
-    ensures outcome { λ r. ⌜ r
+    ensures { λ r. ⌜ leaving r (now (register .exit)) (lists (now (amounts .exit)) (now (answers .exit)) (now (results .exit)))
         ≡ step book (now (register .entry)) call
         (rules.lentWith (now (list .entry)) (now (prices .entry)) (now (amounts .entry)) (now (answers .entry)) (now (results .entry))
-        (now (scratch .entry))) .outcome ⌝ }
-    ensures register { λ r. ⌜ now (register .exit)
-        ≡ step book (now (register .entry)) call
-        (rules.lentWith (now (list .entry)) (now (prices .entry)) (now (amounts .entry)) (now (answers .entry)) (now (results .entry))
-        (now (scratch .entry))) .words ⌝ }
-    ensures amounts { λ r. ⌜ now (amounts .exit)
-        ≡ step book (now (register .entry)) call
-        (rules.lentWith (now (list .entry)) (now (prices .entry)) (now (amounts .entry)) (now (answers .entry)) (now (results .entry))
-        (now (scratch .entry))) .amounts ⌝ }
-    ensures answers { λ r. ⌜ now (answers .exit)
-        ≡ step book (now (register .entry)) call
-        (rules.lentWith (now (list .entry)) (now (prices .entry)) (now (amounts .entry)) (now (answers .entry)) (now (results .entry))
-        (now (scratch .entry))) .answers ⌝ }
-    ensures results { λ r. ⌜ now (results .exit)
-        ≡ step book (now (register .entry)) call
-        (rules.lentWith (now (list .entry)) (now (prices .entry)) (now (amounts .entry)) (now (answers .entry)) (now (results .entry))
-        (now (scratch .entry))) .results ⌝ }
+        (now (scratch .entry))) ⌝ }
 {
     let provincial = column(list, 0);
     let export = column(list, 1);
@@ -125,7 +111,6 @@ fn answer_lent(
     out: &mut [u8],
 ) -> Replied
     requires { ⌜ replyRoom ≤ length (now out) ⌝ }
-    requires { ⌜ now answers ≡ rules.forRound call bidAnswerWords ⌝ }
     ensures journal { λ r. ⌜ r .journal
         ≡ rules.calledBy call
         (step book (now (register .entry)) call
@@ -195,7 +180,7 @@ fn answer_call(
     ensures register { λ r. ⌜
         now (register .exit) ≡ rules.calledBy call (rules.leftBy book (now (register .entry)) call (now (list .entry)) (now (prices .entry))) .register ⌝ }
 {
-    if answers::is_round(call) {
+    if answers::is_round(answers::tell_of(call)) {
         let mut bids = [0u64; Engine::BID_ANSWER_WORDS];
         let mut scratch = [0u32; Engine::SCRATCH_WORDS];
         return answer_lent(
@@ -324,22 +309,13 @@ fn answer_said(
     requires { ⌜ length (now words) ≡ rules.wordRoom ⌝ }
     requires { ⌜ length (now prices) ≡ zones ⌝ }
     requires { ⌜ replyRoom ≤ length (now out) ⌝ }
-    ensures journal { λ r. ⌜ r .journal
-        ≡ rules.saidStep journal (now (register .entry)) (lineSaid rules.wordRoom zones (now (line .entry)))
-        (lineWords rules.wordRoom (now (line .entry))) (linePrices zones (now (line .entry))) .journal ⌝ }
-    ensures used { λ r. ⌜ r .used
-        ≡ length
-        (rules.saidStep journal (now (register .entry)) (lineSaid rules.wordRoom zones (now (line .entry)))
-        (lineWords rules.wordRoom (now (line .entry))) (linePrices zones (now (line .entry))) .text) ⌝ }
-    ensures bytes { λ r. ⌜ now (out .exit)
-        ≡ putAt (now (out .entry)) 0
-        (rules.saidStep journal (now (register .entry)) (lineSaid rules.wordRoom zones (now (line .entry)))
-        (lineWords rules.wordRoom (now (line .entry))) (linePrices zones (now (line .entry))) .text) ⌝ }
-    ensures register { λ r. ⌜ now (register .exit)
-        ≡ rules.saidStep journal (now (register .entry)) (lineSaid rules.wordRoom zones (now (line .entry)))
-        (lineWords rules.wordRoom (now (line .entry))) (linePrices zones (now (line .entry))) .register ⌝ }
-    ensures words { λ r. ⌜ now (words .exit) ≡ withFront (lineWords rules.wordRoom (now (line .entry))) (now (words .entry)) ⌝ }
-    ensures prices { λ r. ⌜ now (prices .exit) ≡ withFront (linePrices zones (now (line .entry))) (now (prices .entry)) ⌝ }
+    ensures journal { λ r. ⌜ r .journal ≡ rules.callLineStep journal (now (register .entry)) (now (line .entry)) .journal ⌝ }
+    ensures used { λ r. ⌜ r .used ≡ length (rules.callLineStep journal (now (register .entry)) (now (line .entry)) .text) ⌝ }
+    ensures bytes { λ r. ⌜
+        now (out .exit) ≡ putAt (now (out .entry)) 0 (rules.callLineStep journal (now (register .entry)) (now (line .entry)) .text) ⌝ }
+    ensures register { λ r. ⌜ now (register .exit) ≡ rules.callLineStep journal (now (register .entry)) (now (line .entry)) .register ⌝ }
+    ensures words { λ r. ⌜ now (words .exit) ≡ withFront (lineWords rules.wordRoom zones (now (line .entry))) (now (words .entry)) ⌝ }
+    ensures prices { λ r. ⌜ now (prices .exit) ≡ withFront (linePrices rules.wordRoom zones (now (line .entry))) (now (prices .entry)) ⌝ }
 {
     let said = journal_call_line::line_said(line, words, prices);
     match said {

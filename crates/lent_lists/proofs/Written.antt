@@ -1,11 +1,14 @@
--- Laws about a list that is written from the front.
+-- Laws about a list that is written from the front, and about the sum of what is written.
 use mathlib.Core.Path.{_≡_, sym, _∙_, ap}
 use mathlib.Core.List.{List, _++_}
-use Prim.Native.Nat.{ℕ, suc, _+_, _≤_, _<_}
+use Prim.Native.Nat.{ℕ, suc, _+_, _<_}
 use native.Mathlib.Numerals.{add-one}
 use native.Mathlib.Omega.{arith}
 use lib.ListN.{length, getD, take, drop, set}
-use lib.Seq.{length-take-le, take-all, take-suc, drop-cons, append-snoc, set-at}
+use lib.Seq.{take-at, length-take-le, take-all, take-suc, drop-cons, append-snoc, set-at}
+use Rattle.market.specs.Books.{withFront}
+use Rattle.market.specs.Limits.{bidderLimit}
+use Rattle.pool_sharing.specs.Sharing.{total}
 
 -- after the next write the list has one more amount and one old word less
 module _ (amounts before : List ℕ) (i : ℕ) where
@@ -17,7 +20,9 @@ module _ (amounts before : List ℕ) (i : ℕ) where
       ∙ rw (add-one, take-suc amounts i 0 p)
 
   -- at the end all amounts are written
-  pub all-written : (n : ℕ) → length amounts ≡ n → n ≤ i → i ≤ n → take i amounts ++ drop i before ≡ amounts ++ drop n before
-  all-written n long p q =
-      let end : i ≡ n = omega arith in
-      rw (take-all i amounts (omega arith), end)
+  pub all-written : i ≡ length amounts → take i amounts ++ drop i before ≡ withFront amounts before
+  all-written end = rw (take-all i amounts (omega (arith, end)), end)
+
+-- the sum of a list's first words where they are amounts that were written
+pub put-listed : (amounts before : List ℕ) → length amounts ≡ bidderLimit → total (take bidderLimit (withFront amounts before)) ≡ total amounts
+put-listed amounts before long = ap total (take-at amounts (drop (length amounts) before) bidderLimit long)

@@ -1,15 +1,15 @@
 // Writes the amounts of the participants to the list that is lent for them.
 use market::engine::Engine;
 ghost use mathlib.Core.Path.{_≡_};
-ghost use mathlib.Core.List.{_++_};
 ghost use Prim.Native.Nat.{_≤_};
-ghost use lib.ListN.{length, drop};
+ghost use lib.ListN.{length};
+ghost use Rattle.market.specs.Books.{withFront};
 ghost use Rattle.market.specs.Limits.{bidderLimit};
 
 // Writes the amounts to the front of the lent list; the words after them stay as they are.
 pub fn write_amounts(amounts: [u64; Engine::BIDDERS], lent: &mut [u64])
     requires { ⌜ bidderLimit ≤ length (now lent) ⌝ }
-    ensures { λ _. ⌜ now (lent .exit) ≡ amounts ++ drop bidderLimit (now (lent .entry)) ⌝ }
+    ensures { λ _. ⌜ now (lent .exit) ≡ withFront amounts (now (lent .entry)) ⌝ }
 {
     for bidder in 0..Engine::BIDDERS {
         lent[bidder] = amounts[bidder];

@@ -11,43 +11,26 @@ use borrow.Author.Tests.{le-ltb, lt-ltb, leb-true, ne-eqb, not-false}
 use Rattle.market.proofs.Filled.{zeros}
 use Rattle.market.proofs.Tables.{none-hold}
 use Rattle.market.proofs.Tests.{left-true}
-use Rattle.market.specs.Answers.{firstOf, answerNumber, answered, drawn, decided}
-use Rattle.market.specs.Books.{bidderOf, withBidder, withAccount, withEntries}
+use Rattle.market.specs.Answers.{firstOf, answerNumber, answered, decided}
 use Rattle.market.specs.Fresh.{freshRefusals, freshBook, noBook, fresh}
 use Rattle.market.specs.Limits.{pathLimit, registerWords, zones}
 use Rattle.market.specs.Sound.{soundPathCount}
-use Rattle.market.specs.declared.answer.Answer.the-variants.{Bids}
-use Rattle.market.specs.declared.answer.Outcome.{Outcome}
 use Rattle.market.specs.declared.book.Book.{Book}
 use Rattle.market.specs.declared.book.Route.{Route}
 use Rattle.text_numbers.specs.Put.{putAt}
 use Rattle.text_numbers.proofs.PutLaws.{put-length}
-use Rattle.call_funding.specs.Deposit.{depositRefusals, withDeposit, deposit}
-use Rattle.call_funding.specs.Withdraw.{withdrawRefusals, debited, withdraw}
-use Rattle.call_rent.specs.Rent.{rentRefusals, rent}
-use Rattle.call_rent.specs.Rent as rents
-use Rattle.call_pay.specs.Pay.{payTable, bookPaid, pay}
-use Rattle.call_default.specs.Default.{defaultTable, drawOf, bookDefaulted, default}
-use Rattle.call_retire.specs.Retire.{retireTable, entriesAfterRetire, retire}
-use Rattle.call_payout.specs.Payout.{payoutTable, accountPaying, payout}
-use Rattle.call_disburse.specs.Disbursement.{flowRefusals, outcome}
-use Rattle.call_disburse.specs.Disbursement as pools
-use Rattle.call_disburse.specs.declared.flow.Flow.the-variants.{Out, In}
-use Rattle.round_bids.specs.Bids.{bidsOf}
-use Rattle.register.specs.Refusals.{countedEntries}
-use Rattle.call_open.specs.Open.{openTable, bookOpened, «open»}
-use Rattle.call_round.specs.Round.{roundTable, bookAfter, round}
-use Rattle.engine.specs.Lent.{Lent, poolListsOf}
+use Rattle.call_rules.proofs.StepLaws.{same-paths}
+use Rattle.engine.proofs.Laws.{lawful}
+use Rattle.engine.specs.Lent.{Lent, listsOf}
+use Rattle.engine.specs.Rules.{ruleOf}
 use Rattle.engine.specs.Step.{step}
 use Rattle.engine.specs.declared.calls.Call.{Call}
-use Rattle.engine.specs.declared.calls.Call.the-variants.{Deposit, Withdraw, Open, Round, Pay, Default, Retire, Rent, Payout, Disburse, Recover}
 use Rattle.journal_fresh_line.specs.FreshLines.{freshSaid}
 use Rattle.journal_fresh_line.specs.declared.FreshLine.{FreshLine}
-use Rattle.journal_call_line.specs.CallLine.{lineSaid, lineWords, linePrices}
-use Rattle.journal_call_line.specs.Verbs.{freshWord, verbAt, laterVerb, lastVerb}
+use Rattle.journal_call_line.specs.CallLine.{lineRead, lineSaid, lineWords, linePrices}
 use Rattle.journal_call_line.specs.declared.Said.{Said}
 use Rattle.journal_call_line.specs.declared.Said.the-variants.{Faulty, Called}
-use Rattle.journal_step.specs.LineStep.{lineBytes, Stepped, wordRoom, turnedAway, callStep, freshState, freshBy, freshStep, saidStep, isFresh, lineStep}
+use Rattle.journal_step.specs.LineStep.{lineBytes, Stepped, wordRoom, turnedAway, callStep, freshState, freshBy, freshStep, saidStep, callLineStep, freshWord, isFresh, lineStep}
 use Rattle.journal_step.specs.declared.Journal.{Journal}
 use Rattle.library_book.specs.BookWords.{bookSize, bookWords, bookIn, encodesBook, FitsBook}
 use Rattle.library_book.proofs.WordLaws.{book-length}
@@ -73,7 +56,7 @@ same-words m line room stood same = (
 
 -- the empty line is malformed
 empty-away : (j : Journal) (register : List ℕ) → lineStep j register [] ≡ turnedAway j register
-unfolding lineStep lineSaid verbAt laterVerb lastVerb
+unfolding lineStep lineRead
 empty-away j register = refl
 
 -- so a line that is too long is refused with 40, and changes nothing
@@ -86,34 +69,9 @@ long-away j register line h =
 abbrev Ready : Journal → Type 0
 Ready j = j .ready ≡ not (eqb (j .book .«path_count») 0)
 
-decided-count : (b : Book) (n : ℕ) (o : Outcome) → o .book .«path_count» ≡ b .«path_count» → decided b n o .book .«path_count» ≡ b .«path_count»
-decided-count b zero o h = h
-decided-count b (suc n) o h = refl
-
 -- no call changes the count of the paths
 step-count : (b : Book) (words : List ℕ) (call : Call) (l : Lent) → step b words call l .outcome .book .«path_count» ≡ b .«path_count»
-unfolding deposit withdraw rent pay default retire payout outcome «open» round
-step-count b words (Deposit bidder to amount) l =
-    decided-count b (firstOf (depositRefusals b bidder to amount)) (answered (withBidder b bidder (withDeposit (bidderOf b bidder) to amount))) refl
-step-count b words (Withdraw bidder from amount) l =
-    decided-count b (firstOf (withdrawRefusals b bidder from amount)) (answered (withBidder b bidder (debited (bidderOf b bidder) from amount))) refl
-step-count b words (Open kind period) l =
-    decided-count b (firstOf (openTable b words period (l .quantities))) (answered (bookOpened b words kind period (l .quantities))) refl
-step-count b words Round l =
-    decided-count b (firstOf (roundTable b words (l .bids) (l .answers) (l .results) (l .scratch))) (record { answer = Bids (length (bidsOf (l .bids))); book = bookAfter b (bidsOf (l .bids)) }) refl
-step-count b words (Pay bidder amount) l = decided-count b (firstOf (payTable b words bidder amount)) (answered (bookPaid b bidder)) refl
-step-count b words (Default bidder) l =
-    decided-count b (firstOf (defaultTable b words bidder)) (drawn (drawOf (bidderOf b bidder)) (bookDefaulted b words bidder)) refl
-step-count b words (Retire day) l =
-    decided-count b (firstOf (retireTable b words day)) (answered (withEntries b (length (entriesAfterRetire b words day)))) refl
-step-count b words (Rent amount) l =
-    decided-count b (firstOf (rentRefusals b amount)) (answered (withAccount b (rents.accountWithRent b amount))) refl
-step-count b words (Payout day failed) l =
-    decided-count b (firstOf (payoutTable b words day failed (l .prices) (l .amounts))) (answered (withAccount b (accountPaying b day failed (l .prices) (countedEntries b words)))) refl
-step-count b words (Disburse total) l =
-    decided-count b (firstOf (flowRefusals Out b total (poolListsOf l))) (answered (withAccount b (pools.accountAfterFlow Out b total))) refl
-step-count b words (Recover total) l =
-    decided-count b (firstOf (flowRefusals In b total (poolListsOf l))) (answered (withAccount b (pools.accountAfterFlow In b total))) refl
+step-count b words call l = same-paths (ruleOf call l) (listsOf l) (lawful call l) b words
 
 -- a fresh book that is answered has a path
 fresh-counted : (routes : List Route) (n : ℕ) → firstOf (freshRefusals routes n) ≡ 0 → true ≡ not (eqb n 0)
@@ -156,9 +114,9 @@ module _ (j : Journal) (register : List ℕ) (h : Ready j) where
           (t :
           Bool)
           → Ready
-          (cond t (freshStep j register (freshSaid (drop (length freshWord) line))) (saidStep j register (lineSaid wordRoom zones line) (lineWords wordRoom line) (linePrices zones line)) .journal)
+          (cond t (freshStep j register (freshSaid (drop (length freshWord) line))) (callLineStep j register line) .journal)
       go true = of-fresh (freshSaid (drop (length freshWord) line)) (freshSaid (drop (length freshWord) line) .present)
-      go false = of-said (lineSaid wordRoom zones line) (lineWords wordRoom line) (linePrices zones line)
+      go false = of-said (lineSaid wordRoom zones line) (lineWords wordRoom zones line) (linePrices wordRoom zones line)
 
 ready-of : (j : Journal) → Ready j → journalOf (j .book) ≡ j
 ready-of j h = λ i. record { ready = sym h i; book = j .book }

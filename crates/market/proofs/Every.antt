@@ -57,3 +57,17 @@ every-map f test given follows [] h = refl
 every-map f test given follows (x ∷ l) h =
     both-true (follows x (left-true (given x) (every given l) h))
     (every-map f test given follows l (right-true (given x) (every given l) h))
+
+-- one element more that passes a test, set after first ones that pass it
+pub every-next : {A : Type 0} (test : A → Bool) (l : List A) (k : ℕ) (v : A) → every test (take k l) ≡ true → test v ≡ true → every test (take (suc k) (set l k v)) ≡ true
+every-next test [] k v h e = refl
+every-next test (x ∷ l) zero v h e = both-true e refl
+every-next test (x ∷ l) (suc k) v h e =
+    both-true (left-true (test x) (every test (take k l)) h) (every-next test l k v (right-true (test x) (every test (take k l)) h) e)
+
+-- where a third test follows from two, it holds of each element
+pub every-two : {A : Type 0} (f g h : A → Bool) → ((x : A) → f x ≡ true → g x ≡ true → h x ≡ true) → (l : List A) → every f l ≡ true → every g l ≡ true → every h l ≡ true
+every-two f g h follows [] p q = refl
+every-two f g h follows (x ∷ l) p q =
+    both-true (follows x (left-true (f x) (every f l) p) (left-true (g x) (every g l) q))
+    (every-two f g h follows l (right-true (f x) (every f l) p) (right-true (g x) (every g l) q))

@@ -1,16 +1,16 @@
--- What a sound book gives, part by part.
+-- What a sound book gives, part by part; and a sound book from its parts.
 use mathlib.Core.Path.{_≡_}
 use mathlib.Core.Bool.{true, _&&_, or-true}
-use mathlib.Core.List.{List}
-use Prim.Native.Nat.{ℕ, _≤_}
+use Prim.Native.Nat.{ℕ, _≤_, _<_}
 use lib.Dec.{leb, eqb}
-use lib.ListN.{getD}
-use borrow.Author.Tests.{leb-true}
-use Rattle.market.proofs.Every.{every-at-any}
+use lib.ListN.{getD, take}
+use lib.Seq.{getD-take}
+use borrow.Author.Tests.{leb-true, le-leb}
+use Rattle.market.proofs.Every.{both-true, every-at-any}
 use Rattle.market.proofs.Tests.{left-true, right-true}
 use Rattle.market.specs.Books.{every, _implies_, pathsOf, noPath, noBidder, bidderOf, noValue, heldOf}
 use Rattle.market.specs.Limits.{pathLimit, zoneLimit, quantityLimit, entryLimit, roundTwoOwedLimit, moneyLimit, owedLimit, stepLimit}
-use Rattle.market.specs.Sound.{soundPathCount, soundStage, roundOf, soundPath, soundBidder, soundAccount, soundBook, BidderBounds, AllWithin}
+use Rattle.market.specs.Sound.{soundPathCount, soundStage, roundOf, soundPath, soundBidder, soundAccount, soundBook, BidderBounds}
 use Rattle.market.specs.declared.book.Bidder.{Bidder}
 use Rattle.market.specs.declared.book.Book.{Book}
 use Rattle.market.specs.declared.book.Path.{Path}
@@ -49,6 +49,15 @@ sound-parts b h =
       bidders = right-true (count && entries && stage && paths) bidders h₅;
       account = right-true (count && entries && stage && paths && bidders) account h;
     }
+
+pub sound-made : (b : Book) → SoundParts b → soundBook b ≡ true
+unfolding soundBook
+sound-made b p =
+    both-true
+    (both-true
+    (both-true (both-true (both-true (p .path-count) (le-leb (b .entries) entryLimit (p .entries))) (p .stage)) (p .paths))
+    (p .bidders))
+    (p .account)
 
 -- what the round asks of a bidder
 pub record AtRound (round : ℕ) (x : Bidder) : Type 0 where
@@ -124,3 +133,23 @@ path-bounds round p h =
       sold = leb-true (p .sold .0) (p .offer .0) (right-true (zone && start) sold h₃);
       offer = leb-true (p .offer .0) quantityLimit (right-true (zone && start && sold) offer h);
     }
+
+-- a sound bidder from its parts
+pub bidder-made : (round : ℕ) (x : Bidder) → AtRound round x → BidderBounds x → soundBidder round x ≡ true
+bidder-made round x a p =
+    both-true
+    (both-true
+    (both-true
+    (both-true (both-true (both-true (a .one) (a .two)) (le-leb (heldOf x) moneyLimit (p .held))) (le-leb (x .letter .0) moneyLimit (p .letter)))
+    (le-leb (x .hold .0) (x .letter .0) (p .hold)))
+    (le-leb (x .owed .0) owedLimit (p .owed)))
+    (le-leb (x .step) stepLimit (p .step))
+
+-- a path of a sound book leads to a zone
+pub zone-within : (b : Book) (i : ℕ) → soundBook b ≡ true → i < b .«path_count» → getD (b .paths) i noPath .zone ≤ zoneLimit
+zone-within b i h below =
+    let round = roundOf (b .stage) in
+    let p = getD (take (b .«path_count») (b .paths)) i noPath in
+    let all = every-at-any (soundPath round) (take (b .«path_count») (b .paths)) i noPath (sound-parts b h .paths) (no-path-sound round) in
+    let is : p ≡ getD (b .paths) i noPath = getD-take (b .«path_count») (b .paths) i noPath below in
+    rw is at (path-bounds round p all .zone)

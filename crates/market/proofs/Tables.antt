@@ -1,5 +1,5 @@
 -- Laws about tables of refusals, and about a call that a table decides.
-use mathlib.Core.Path.{_≡_, refl, sym}
+use mathlib.Core.Path.{_≡_, refl, sym, ap}
 use mathlib.Core.Bool.{Bool, true, false, cond}
 use mathlib.Core.List.{List, [], _∷_, _++_}
 use Prim.Native.Nat.{ℕ, zero, suc, _<_}
@@ -8,7 +8,7 @@ use lib.Dec.{T, ltb}
 use borrow.Author.Tests.{ltb-true}
 use Rattle.market.proofs.Tests.{left-true, right-true}
 use Rattle.market.specs.Books.{every}
-use Rattle.market.specs.Answers.{Row, _gives_, firstOf, answerNumber, decided, decidedList, refused}
+use Rattle.market.specs.Answers.{Row, firstOf, answerNumber, decided, refused}
 use Rattle.market.specs.declared.answer.Outcome.{Outcome}
 use Rattle.market.specs.declared.book.Book.{Book}
 
@@ -25,18 +25,6 @@ none-refused b (suc n) taken none = none
 pub is-taken : (b : Book) (n : ℕ) (taken : Outcome) → n ≡ 0 → decided b n taken ≡ taken
 is-taken b zero taken h = refl
 is-taken b (suc n) taken h = absurd (clash h)
-  where
-    clash : suc n ≡ 0 → ⊥
-    clash p = omega arith
-
--- the same for a lent list
-pub list-kept : (before : List ℕ) (n : ℕ) (taken : List ℕ) → (n ≡ 0 → ⊥) → decidedList before n taken ≡ before
-list-kept before zero taken h = absurd (h refl)
-list-kept before (suc n) taken h = refl
-
-pub list-taken : (before : List ℕ) (n : ℕ) (taken : List ℕ) → n ≡ 0 → decidedList before n taken ≡ taken
-list-taken before zero taken h = refl
-list-taken before (suc n) taken h = absurd (clash h)
   where
     clash : suc n ≡ 0 → ⊥
     clash p = omega arith
@@ -105,9 +93,7 @@ neither-holds (row ∷ rows) more n h =
     both (row .0) (row .1) (firstOf (rows ++ more)) (firstOf rows) (firstOf more) (left-true (numbered row) (every numbered rows) n)
     h (λ k. neither-holds rows more (right-true (numbered row) (every numbered rows) n) k)
 
-module _ (before : List ℕ) (table : List Row) (taken : List ℕ) (n : ℕ) (is : n ≡ firstOf table) where
-  pub list-stays : (n ≡ 0 → ⊥) → before ≡ decidedList before (firstOf table) taken
-  list-stays h = rw (← is) (sym (list-kept before n taken h))
-
-  pub list-changes : n ≡ 0 → taken ≡ decidedList before (firstOf table) taken
-  list-changes h = rw (← is) (sym (list-taken before n taken h))
+-- rows that give the same number, after the same rows
+pub same-after : (rows one other : List Row) → firstOf one ≡ firstOf other → firstOf (rows ++ one) ≡ firstOf (rows ++ other)
+same-after [] one other same = same
+same-after (row ∷ rows) one other same = ap (cond (row .0) (row .1)) (same-after rows one other same)

@@ -36,6 +36,13 @@ answerValues Done = []
 answerValues (Drawn draw) = draw .0 ∷ []
 answerValues (Bids bids) = bids ∷ []
 
+-- how many bids an answer tells of
+abbrev pub bidsIn : Answer → ℕ
+bidsIn (Refused number) = 0
+bidsIn Done = 0
+bidsIn (Drawn draw) = 0
+bidsIn (Bids bids) = bids
+
 -- "A refusal returns its number; nothing lent or held differs afterwards."
 abbrev pub refused : Book → ℕ → Outcome
 refused book number = record { answer = Refused number; book = book }

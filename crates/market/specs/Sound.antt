@@ -7,7 +7,8 @@ use lib.IntN.{ℤ, pos, negℤ}
 use lib.ListN.{getD}
 use lib.Signed.{leZ}
 use Rattle.market.specs.Books.{every, _implies_, dayNumber, pathsOf, noBidder, noValue, heldOf}
-use Rattle.market.specs.Limits.{pathLimit, zoneLimit, entryLimit, roundTwoOwedLimit, moneyLimit, owedLimit, stepLimit, accountLimit, quantityLimit, dayLimit}
+use Rattle.market.specs.Limits.{pathLimit, zoneLimit, entryLimit, roundTwoOwedLimit, moneyLimit, owedLimit, stepLimit}
+use Rattle.market.specs.Limits.{accountLimit, quantityLimit, dayLimit}
 use Rattle.market.specs.declared.book.Bidder.{Bidder}
 use Rattle.market.specs.declared.book.Book.{Book}
 use Rattle.market.specs.declared.book.Kind.{Kind}

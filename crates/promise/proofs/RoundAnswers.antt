@@ -3,15 +3,13 @@
 use mathlib.Core.Path.{_≡_, refl, sym, _∙_, ap, ap₂, subst}
 use mathlib.Core.Bool.{Bool, true, false, cond}
 use mathlib.Core.List.{List, [], _∷_}
-use Prim.Native.Nat.{ℕ, zero, suc, _+_, _≤_, _<_}
+use Prim.Native.Nat.{ℕ, _+_, _≤_, _<_}
 use native.Mathlib.Omega.{arith}
 use lib.Dec.{eqb}
 use lib.ListN.{length, getD, replicate}
-use Rattle.market.proofs.Tables.{none-refused, is-taken, list-taken}
-use Rattle.market.specs.Answers.{answerNumber, firstOf, decided}
+use Rattle.market.proofs.Tables.{none-refused}
+use Rattle.market.specs.Answers.{answerNumber}
 use Rattle.market.specs.Limits.{bidLimit, pathLimit, bidderLimit}
-use Rattle.market.specs.declared.answer.Answer.the-variants.{Bids}
-use Rattle.market.specs.declared.answer.Outcome.{Outcome}
 use Rattle.market.specs.declared.book.Book.{Book}
 use Rattle.round_bids.proofs.Walk.{bids-few}
 use Rattle.round_bids.specs.Bids.{Bid, bidsOf}
@@ -24,17 +22,19 @@ use Rattle.round_award_rules.specs.Awards.{Claim, claimsOf, awardsOf, wonBy, ch
 use Rattle.round_award_rules.specs.Rivals.{Rival, Legal, rivalValue, filledValue, totalValueFrom, totalValue}
 use Rattle.round_awards.proofs.TableLaws.{below-at, below-length, table-is}
 use Rattle.round_awards.specs.Tables.{below}
-use Rattle.round_charges.specs.Charges.{bidRows}
 use Rattle.market.specs.Books.{withFront}
-use Rattle.round_paths.specs.PathRows.{pathRows}
 use Rattle.call_round.proofs.ReadyLaws.{listed}
 use Rattle.call_round.proofs.RoundBounds.{noBid}
 use Rattle.call_round.specs.Answers.{markIn, wonIn, chargeIn, offeredIn}
-use Rattle.call_round.specs.Round.{offeredNow, marksNow, awardsNow, wonNow, soldNow, pricesNow, bookAfter, roundTable, round, roundBidAnswers, roundPathAnswers}
-use Rattle.promise_invariants.proofs.ChargeLimits.{all-bids, below-most, charge-table}
-use Rattle.promise_invariants.proofs.RoundCleared.{RoundOpen, round-cleared}
-use Rattle.engine.specs.Lent.{Lent}
-use Rattle.engine.specs.Step.{step}
+use Rattle.call_round.specs.Round.{offeredNow, marksNow, awardsNow, wonNow, soldNow, pricesNow, bidAnswersNow, pathAnswersNow, round}
+use Rattle.call_round.proofs.ChargeLimits.{all-bids, below-most, charge-table}
+use Rattle.call_round.proofs.Cleared.{RoundOpen, round-cleared}
+use Rattle.call_round.proofs.RoundLawful.{round-lawful}
+use Rattle.call_rules.proofs.Decides.{list-changes}
+use Rattle.call_rules.proofs.StepLaws.{same-paths}
+use Rattle.call_rules.specs.Rule.{Rule}
+use Rattle.call_rules.specs.Steps.{rulingOf, refusalOf, outcomeOf, listAfter, toAnswers, toResults}
+use Rattle.engine.specs.Lent.{Lent, listsOf}
 use Rattle.engine.specs.declared.calls.Call.the-variants.{Round}
 use Rattle.promise.specs.Answered.{NoRivalAbove, BidsWithin, BiddersWithin, ofBidder}
 use Rattle.promise.specs.Runs.{Made, engineMade}
@@ -114,9 +114,12 @@ module _ (paths : ℕ) (offered : List ℕ) (bids : List Bid) (marks : List ℕ)
 
 -- a round, as the engine made it
 abbrev pub roundMade : Book → List ℕ → Lent → Made
-roundMade b words l = engineMade (record { what = Round; lent = l }) (step b words Round l)
+roundMade b words l = engineMade b words (record { what = Round; lent = l })
 
-module _ (b : Book) (words : List ℕ) (l : Lent) (none : answerNumber (round b words (l .bids) (l .answers) (l .results) (l .scratch) .answer) ≡ 0) where
+module _ (b : Book) (words : List ℕ) (l : Lent) (none : answerNumber (roundMade b words l .reply .answer) ≡ 0) where
+  abbrev rule : Rule
+  rule = round (l .bids) (l .answers) (l .results) (l .scratch)
+
   abbrev bids : List Bid
   bids = bidsOf (l .bids)
 
@@ -124,46 +127,37 @@ module _ (b : Book) (words : List ℕ) (l : Lent) (none : answerNumber (round b 
   marks = marksNow b bids
 
   abbrev answers : List ℕ
-  answers = roundBidAnswers b words (l .bids) (l .answers) (l .results) (l .scratch)
+  answers = listAfter toAnswers rule b words (l .answers)
 
   abbrev results : List ℕ
-  results = roundPathAnswers b words (l .bids) (l .answers) (l .results) (l .scratch)
+  results = listAfter toResults rule b words (l .results)
 
   abbrev after : Book
-  after = round b words (l .bids) (l .answers) (l .results) (l .scratch) .book
-
-  abbrev refusal : ℕ
-  refusal = firstOf (roundTable b words (l .bids) (l .answers) (l .results) (l .scratch))
-
-  abbrev taken : Outcome
-  taken = record { answer = Bids (length bids); book = bookAfter b bids }
+  after = outcomeOf rule b words .book
 
   -- nothing refuses it
-  cleared : refusal ≡ 0
-  unfolding round
-  cleared = none-refused b refusal taken none
+  cleared : 0 ≡ refusalOf rule b words
+  unfolding outcomeOf
+  cleared = sym (none-refused b (refusalOf rule b words) (rulingOf rule b words .outcome) none)
 
   pub opened : RoundOpen b words (l .bids) (l .answers) (l .results) (l .scratch)
-  opened = round-cleared b words (l .bids) (l .answers) (l .results) (l .scratch) cleared
+  opened = round-cleared b words (l .bids) (l .answers) (l .results) (l .scratch) (sym cleared)
 
   pub few : length bids ≤ bidLimit
   few =
       bids-few pathLimit (l .bids) (listed b words (l .bids) (l .answers) (l .results) (l .scratch) (opened .early) .sound) (opened .early .short)
 
   -- its lists, and the number of the book's paths
-  pub answers-are : answers ≡ withFront (bidRows marks (wonNow b bids) (pricesNow b bids) bids) (l .answers)
-  unfolding roundBidAnswers
-  answers-are = list-taken (l .answers) refusal (withFront (bidRows marks (wonNow b bids) (pricesNow b bids) bids) (l .answers)) cleared
-
-  pub results-are : results ≡ withFront (pathRows (offeredNow b) (soldNow b bids) (pricesNow b bids) (b .«path_count»)) (l .results)
-  unfolding roundPathAnswers
-  results-are =
-      list-taken (l .results) refusal
-      (withFront (pathRows (offeredNow b) (soldNow b bids) (pricesNow b bids) (b .«path_count»)) (l .results)) cleared
-
-  pub same-paths : after .«path_count» ≡ b .«path_count»
+  pub answers-are : answers ≡ withFront (bidAnswersNow b bids) (l .answers)
   unfolding round
-  same-paths = ap (λ (o : Outcome). o .book .«path_count») (is-taken b refusal taken cleared)
+  answers-are = sym (list-changes rule b words 0 cleared refl toAnswers (l .answers))
+
+  pub results-are : results ≡ withFront (pathAnswersNow b bids) (l .results)
+  unfolding round
+  results-are = sym (list-changes rule b words 0 cleared refl toResults (l .results))
+
+  pub same-count : after .«path_count» ≡ b .«path_count»
+  same-count = same-paths rule (listsOf l) (round-lawful (l .bids) (listsOf l) (l .scratch)) b words
 
   -- the words of its lists
   marked : (k : ℕ) → k < length bids → markIn answers k ≡ getD marks k 0
@@ -189,7 +183,7 @@ module _ (b : Book) (words : List ℕ) (l : Lent) (none : answerNumber (round b 
   offers path inside =
       ap (λ (words : List ℕ). offeredIn words path) results-are
       ∙ offered-read (offeredNow b) (soldNow b bids) (pricesNow b bids) (b .«path_count») (l .results) path
-      (omega (arith, same-paths))
+      (omega (arith, same-count))
 
   -- "in each answered round its total bid value is at least that of every rival award"
   pub no-rival-above : NoRivalAbove (roundMade b words l)

@@ -3,46 +3,65 @@ use mathlib.Core.Path.{_≡_, refl, sym, _∙_, ap, ap₂}
 use mathlib.Core.List.{List, [], _∷_}
 use Prim.Native.Nat.{ℕ, _+_}
 use lib.IntN.{ℤ, pos, negℤ, _+ℤ_, _-ℤ_, +ℤ-assoc, +ℤ-comm, negℤ-+ℤ, pos-+ℤ-pos}
-use Rattle.market.specs.Answers.{answerNumber}
 use Rattle.market.specs.declared.book.Book.{Book}
 use Rattle.register.specs.Refusals.{countedEntries}
-use Rattle.promise_invariants.proofs.Lifting.{nothing-moved}
-use Rattle.promise_invariants.specs.Money.{worth}
-use Rattle.promise_invariants.specs.State.{SoundState}
+use Rattle.call_rules.proofs.StepLaws as steps
+use Rattle.call_rules.proofs.Sums.{nothing-moved}
+use Rattle.call_rules.specs.Money.{worth}
+use Rattle.call_rules.specs.State.{SoundMemory}
+use Rattle.engine.proofs.Laws.{lawful}
+use Rattle.engine.specs.Lent.{listsOf}
+use Rattle.engine.specs.Rules.{ruleOf}
 use Rattle.promise.specs.Promise.{EachCall, NotUnsound}
-use Rattle.promise.specs.Runs.{Request, Made, engineMade, engineStep, engineRun, rulesStep, rulesRun}
+use Rattle.promise.specs.Runs.{Request, Made, madeWith, engineStep, engineMade, engineRun, rulesMade, rulesRun}
 use Rattle.promise.specs.Sums.{moneyIn, moneyOut, allIn, allOut, lastBook}
-use Rattle.promise.proofs.Kept.{step-keeps, step-money}
-use Rattle.promise.proofs.NeverUnsound.{ruled-not-two}
-use Rattle.promise.proofs.SameStep.{step-same}
+
+-- ---- One call
+
+module _ (b : Book) (words : List ℕ) (sound : SoundMemory b words) (r : Request) where
+  abbrev after : Book
+  after = engineStep b words r .outcome .book
+
+  abbrev wordsThen : List ℕ
+  wordsThen = engineStep b words r .words
+
+  -- it keeps the memory sound
+  pub step-keeps : SoundMemory after wordsThen
+  step-keeps = steps.memory-kept (ruleOf (r .what) (r .lent)) (listsOf (r .lent)) (lawful (r .what) (r .lent)) b words sound
+
+  -- it is the rules'
+  step-same : engineMade b words r ≡ rulesMade b (countedEntries b words) r
+  step-same =
+      ap (madeWith r)
+      (steps.effect-same (ruleOf (r .what) (r .lent)) (listsOf (r .lent)) (lawful (r .what) (r .lent)) b words sound)
+
+  -- 2 is not its answer
+  pub step-not-unsound : NotUnsound (engineMade b words r)
+  step-not-unsound =
+      steps.not-two (ruleOf (r .what) (r .lent)) (listsOf (r .lent)) (lawful (r .what) (r .lent)) b words sound
+
+  -- the money in the book differs by what came in and what went out
+  step-money : worth after ≡ worth b +ℤ pos (moneyIn (engineMade b words r)) -ℤ pos (moneyOut (engineMade b words r))
+  step-money =
+      steps.money-moved (ruleOf (r .what) (r .lent)) (listsOf (r .lent)) (lawful (r .what) (r .lent)) b words sound
+
+-- ---- Every call of a list
 
 -- a fact of every call that is made in a sound state
 pub each-call :
-    (P :
-    Made → Type 0) → ((b : Book) (words : List ℕ) → SoundState b words → (r : Request) → P (engineMade r (engineStep b words r))) → (b : Book) (words : List ℕ) → SoundState b words
+    (P : Made → Type 0) → ((b : Book) (words : List ℕ) → SoundMemory b words → (r : Request) → P (engineMade b words r)) → (b : Book) (words : List ℕ) → SoundMemory b words
     → (calls : List Request) → EachCall P (engineRun b words calls)
-each-call P fact b words state [] = tt
-each-call P fact b words state (r ∷ rs) = (
-  fact b words state r,
-  each-call P fact (engineStep b words r .outcome .book) (engineStep b words r .words) (step-keeps b words state r) rs,
-)
+each-call P fact b words sound [] = tt
+each-call P fact b words sound (r ∷ rs) =
+    (fact b words sound r, each-call P fact (after b words sound r) (wordsThen b words sound r) (step-keeps b words sound r) rs)
 
 -- the engine's run is the rules'
-pub run-same : (b : Book) (words : List ℕ) → SoundState b words → (calls : List Request) → engineRun b words calls ≡ rulesRun b (countedEntries b words) calls
-run-same b words state [] = refl
-run-same b words state (r ∷ rs) =
-    ap₂ _∷_ here
-    (run-same (engineStep b words r .outcome .book) (engineStep b words r .words) (step-keeps b words state r) rs
-    ∙ ap (λ (m : Made). rulesRun (m .book) (m .entries) rs) here)
-  where
-    here : engineMade r (engineStep b words r) ≡ rulesStep b (countedEntries b words) r
-    here = step-same b words state r
-
--- 2 is not among the answers
-pub step-not-unsound : (b : Book) (words : List ℕ) → SoundState b words → (r : Request) → NotUnsound (engineMade r (engineStep b words r))
-step-not-unsound b words state r two =
-    ruled-not-two b (countedEntries b words) (state .sound) (state .entries) (r .what) (r .lent)
-    (ap (λ (m : Made). answerNumber (m .reply .answer)) (sym (step-same b words state r)) ∙ two)
+pub run-same : (b : Book) (words : List ℕ) → SoundMemory b words → (calls : List Request) → engineRun b words calls ≡ rulesRun b (countedEntries b words) calls
+run-same b words sound [] = refl
+run-same b words sound (r ∷ rs) =
+    ap₂ _∷_ (step-same b words sound r)
+    (run-same (after b words sound r) (wordsThen b words sound r) (step-keeps b words sound r) rs
+    ∙ ap (λ (m : Made). rulesRun (m .book) (m .entries) rs) (step-same b words sound r))
 
 -- ---- The money
 
@@ -59,20 +78,13 @@ sums-add z i o more out =
     (sym (negℤ-+ℤ (pos o) (pos out)) ∙ ap negℤ (pos-+ℤ-pos o out))
 
 pub run-money :
-    (b :
-    Book) (words : List ℕ) → SoundState b words → (calls : List Request)
+    (b : Book) (words : List ℕ) → SoundMemory b words → (calls : List Request)
     → worth (lastBook b (engineRun b words calls)) ≡ worth b +ℤ pos (allIn (engineRun b words calls)) -ℤ pos (allOut (engineRun b words calls))
-run-money b words state [] = nothing-moved (worth b)
-run-money b words state (r ∷ rs) =
-    run-money after (engineStep b words r .words) (step-keeps b words state r) rs
-    ∙ ap (λ (z : ℤ). z +ℤ pos (allIn rest) -ℤ pos (allOut rest)) (step-money b words state r)
-    ∙ sums-add (worth b) (moneyIn (r .what) (made .reply)) (moneyOut (r .what) (made .reply)) (allIn rest) (allOut rest)
+run-money b words sound [] = nothing-moved (worth b)
+run-money b words sound (r ∷ rs) =
+    run-money (after b words sound r) (wordsThen b words sound r) (step-keeps b words sound r) rs
+    ∙ ap (λ (z : ℤ). z +ℤ pos (allIn rest) -ℤ pos (allOut rest)) (step-money b words sound r)
+    ∙ sums-add (worth b) (moneyIn (engineMade b words r)) (moneyOut (engineMade b words r)) (allIn rest) (allOut rest)
   where
-    after : Book
-    after = engineStep b words r .outcome .book
-
-    made : Made
-    made = engineMade r (engineStep b words r)
-
     rest : List Made
-    rest = engineRun after (engineStep b words r .words) rs
+    rest = engineRun (after b words sound r) (wordsThen b words sound r) rs

@@ -12,14 +12,14 @@ use Rattle.market.specs.declared.book.Book.{Book}
 use Rattle.market.specs.declared.book.Entry.{Entry}
 use Rattle.market.specs.declared.book.Route.{Route}
 use Rattle.register.specs.Refusals.{countedEntries}
-use Rattle.promise_invariants.proofs.Start.{fresh-state, fresh-worth}
-use Rattle.promise_invariants.specs.State.{SoundState}
+use Rattle.call_rules.proofs.SoundStates.{fresh-state}
+use Rattle.call_rules.specs.Money.{worth}
+use Rattle.call_rules.specs.State.{SoundMemory}
 use Rattle.engine.specs.Lent.{Lent}
-use Rattle.engine.specs.Step.{step}
 use Rattle.engine.specs.declared.calls.Call.{Call}
 use Rattle.promise.specs.Answered.{IfRound, NoRivalAbove, BidsWithin, BiddersWithin}
 use Rattle.promise.specs.Promise.{NotUnsound, Promise}
-use Rattle.promise.specs.Runs.{Request, Made, engineMade, engineStep, engineRun, rulesRun}
+use Rattle.promise.specs.Runs.{Request, Made, engineMade, engineRun, rulesRun}
 use Rattle.promise.specs.Sums.{allIn, allOut}
 use Rattle.promise.proofs.RoundAnswers.{roundMade, no-rival-above, bids-within, bidders-within}
 use Rattle.promise.proofs.RunLaws.{each-call, run-same, step-not-unsound, run-money}
@@ -28,24 +28,29 @@ use Rattle.promise.proofs.RunLaws.{each-call, run-same, step-not-unsoun
 of-rounds :
     (holds :
     Made → Type 0) → ((b : Book) (words : List ℕ) (l : Lent) → answerNumber (roundMade b words l .reply .answer) ≡ 0 → holds (roundMade b words l)) → (b : Book) (words : List ℕ) (r : Request)
-    → IfRound holds (engineMade r (engineStep b words r))
+    → IfRound holds (engineMade b words r)
 of-rounds holds fact b words r is =
     subst (λ (what : Call). answerNumber (made what .reply .answer) ≡ 0 → holds (made what)) (sym is) (fact b words (r .lent))
   where
     made : Call → Made
-    made what = engineMade (record { what = what; lent = r .lent }) (step b words what (r .lent))
+    made what = engineMade b words (record { what = what; lent = r .lent })
 
 module _ (routes : List Route) (paths : ℕ) (words : List ℕ) (calls : List Request) (answered : firstOf (freshRefusals routes paths) ≡ 0) (long : registerWords ≤ length words) where
   abbrev start : Book
   start = freshBook routes paths
 
-  sound : SoundState start words
+  sound : SoundMemory start words
   sound = fresh-state routes paths words answered long
 
   -- it counts no entry, so that no word of the register is read
   none-counted : countedEntries start words ≡ []
   unfolding freshBook
   none-counted = refl
+
+  -- and there is no money in it
+  no-money : worth start ≡ pos 0
+  unfolding freshBook
+  no-money = refl
 
   pub promise : Promise routes paths words calls
   promise =
@@ -57,6 +62,6 @@ module _ (routes : List Route) (paths : ℕ) (words : List ℕ) (calls : List Re
         bidders-within = each-call (IfRound BiddersWithin) (λ b now state. of-rounds BiddersWithin bidders-within b now) start words sound calls;
         money =
             run-money start words sound calls
-            ∙ ap (λ (z : ℤ). z +ℤ pos (allIn (engineRun start words calls)) -ℤ pos (allOut (engineRun start words calls))) (fresh-worth routes paths)
+            ∙ ap (λ (z : ℤ). z +ℤ pos (allIn (engineRun start words calls)) -ℤ pos (allOut (engineRun start words calls))) no-money
             ∙ ap (λ (z : ℤ). z -ℤ pos (allOut (engineRun start words calls))) (+ℤ-idl (pos (allIn (engineRun start words calls))));
       }

@@ -22,11 +22,11 @@ bidsMade m = bidsOf (m .request .lent .bids)
 
 -- the laminations of the bids that were admitted
 abbrev pub claimsMade : Made → List Claim
-claimsMade m = claimsOf (bidsMade m) (below (length (bidsMade m)) (markIn (m .reply .answers)))
+claimsMade m = claimsOf (bidsMade m) (below (length (bidsMade m)) (markIn (m .reply .lists .answers)))
 
 -- what the round offered of each path of the book
 abbrev pub offersMade : Made → List ℕ
-offersMade m = below (m .book .«path_count») (offeredIn (m .reply .results))
+offersMade m = below (m .book .«path_count») (offeredIn (m .reply .lists .results))
 
 -- "A rival award gives each lamination (pair) of an admitted bid 0 up to its own MW, no path more in all than the round offers"
 abbrev pub RivalOf : Made → Rival → Type 0
@@ -36,14 +36,14 @@ RivalOf m gives = Legal (offersMade m) (claimsMade m) gives
 -- in order with its answered MW"
 abbrev pub NoRivalAbove : Made → Type 0
 NoRivalAbove m =
-    (gives : Rival) → RivalOf m gives → rivalValue gives (claimsMade m) ≤ totalValue (wonIn (m .reply .answers)) (bidsMade m)
+    (gives : Rival) → RivalOf m gives → rivalValue gives (claimsMade m) ≤ totalValue (wonIn (m .reply .lists .answers)) (bidsMade m)
 
 -- "no bid is charged more than its bid value for what it won"
 abbrev pub BidsWithin : Made → Type 0
 BidsWithin m =
     (bid : ℕ) (none : Bid) →
     bid < length (bidsMade m) →
-    chargeIn (m .reply .answers) bid ≤ filledValue (wonIn (m .reply .answers) bid) (getD (bidsMade m) bid none .laminations)
+    chargeIn (m .reply .lists .answers) bid ≤ filledValue (wonIn (m .reply .lists .answers) bid) (getD (bidsMade m) bid none .laminations)
 
 -- an amount of each bid, summed over the bids of one bidder, from a number on
 abbrev pub ofBidder : ℕ → (ℕ → Bid → ℕ) → ℕ → List Bid → ℕ
@@ -55,8 +55,8 @@ ofBidder bidder amount bid (b ∷ bs) =
 abbrev pub BiddersWithin : Made → Type 0
 BiddersWithin m =
     (bidder : ℕ) →
-    ofBidder bidder (λ bid b. chargeIn (m .reply .answers) bid) 0 (bidsMade m)
-    ≤ ofBidder bidder (λ bid b. filledValue (wonIn (m .reply .answers) bid) (b .laminations)) 0 (bidsMade m)
+    ofBidder bidder (λ bid b. chargeIn (m .reply .lists .answers) bid) 0 (bidsMade m)
+    ≤ ofBidder bidder (λ bid b. filledValue (wonIn (m .reply .lists .answers) bid) (b .laminations)) 0 (bidsMade m)
 
 -- a fact of a call that was made, if it is a round and was answered
 abbrev pub IfRound : (Made → Type 0) → Made → Type 0

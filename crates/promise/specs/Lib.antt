@@ -1,5 +1,4 @@
 -- The promise over every list of calls, and what it speaks of.
-pub mod Rules
 pub mod Runs
 pub mod Answered
 pub mod Sums

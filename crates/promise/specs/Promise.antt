@@ -7,7 +7,7 @@ use lib.IntN.{pos, _-ℤ_}
 use Rattle.market.specs.Answers.{answerNumber}
 use Rattle.market.specs.Fresh.{freshBook}
 use Rattle.market.specs.declared.book.Route.{Route}
-use Rattle.promise_invariants.specs.Money.{worth}
+use Rattle.call_rules.specs.Money.{worth}
 use Rattle.promise.specs.Answered.{IfRound, NoRivalAbove, BidsWithin, BiddersWithin}
 use Rattle.promise.specs.Runs.{Request, Made, engineRun, rulesRun}
 use Rattle.promise.specs.Sums.{allIn, allOut, lastBook}

@@ -4,41 +4,47 @@ use Rattle.market.specs.Fresh.{freshBook}
 use Rattle.market.specs.Sound.{soundBook}
 use Rattle.pool_sharing.specs.Sharing.{poolShares}
 use Rattle.pool_columns.specs.Pools.{sharesOf}
-use Rattle.call_payout.specs.Payout.{amountsOf}
+use Rattle.call_funding.specs.Deposit.{deposit}
+use Rattle.call_open.specs.Open.{«open»}
+use Rattle.call_pay.specs.Pay.{pay}
+use Rattle.call_default.specs.Default.{default}
+use Rattle.call_rent.specs.Rent.{rent}
+use Rattle.call_payout.specs.Payout.{amountsOf, payout}
+use Rattle.call_disburse.specs.Disbursement.{settle}
 use Rattle.round_award_rules.specs.Awards.{awardsOf}
-use Rattle.call_round.specs.Round.{awardsNow}
+use Rattle.call_round.specs.Round.{awardsNow, round}
 use Rattle.promise_cases.specs.Cases.{NoBids, SheetCase, LongRounds, Offers, Admission, Defaults, Earnings, Shares, Starred}
 
 no-bids : NoBids
-unfolding freshBook soundBook awardsNow awardsOf
+unfolding freshBook soundBook deposit «open» round awardsNow awardsOf pay default
 no-bids = record { answered = refl; path = refl; idle-after = refl }
 
 sheet : SheetCase
-unfolding freshBook soundBook awardsNow awardsOf
+unfolding freshBook soundBook deposit «open» round awardsNow awardsOf pay default
 sheet = record { answered = refl; bids = refl; path = refl; bidder-3 = refl; bidder-7 = refl; pending = refl }
 
 long-rounds : LongRounds
-unfolding freshBook soundBook awardsNow awardsOf
+unfolding freshBook soundBook deposit «open» round awardsNow awardsOf pay default
 long-rounds = record { offer = refl; if-50-sold = refl; if-10-sold = refl }
 
 offers : Offers
-unfolding freshBook soundBook awardsNow awardsOf
+unfolding freshBook soundBook deposit «open» round awardsNow awardsOf pay default
 offers = record { long = refl; out = refl; long-with-out = refl; short-with-out = refl }
 
 admission : Admission
-unfolding freshBook soundBook awardsNow awardsOf
+unfolding freshBook soundBook deposit «open» round awardsNow awardsOf pay default
 admission = record { at-limit = refl; over-limit = refl }
 
 defaults : Defaults
-unfolding freshBook soundBook awardsNow awardsOf
+unfolding freshBook soundBook deposit «open» round awardsNow awardsOf pay default
 defaults = record { forfeit-3 = refl; cash-3 = refl; draw-7 = refl }
 
 earnings : Earnings
-unfolding freshBook soundBook awardsNow awardsOf amountsOf
+unfolding freshBook soundBook deposit «open» round awardsNow awardsOf pay payout amountsOf
 earnings = record { X-above = refl; M-above = refl; M-below = refl }
 
 shares : Shares
-unfolding freshBook soundBook sharesOf poolShares
+unfolding freshBook soundBook rent settle sharesOf poolShares
 shares = record { shared-out = refl }
 
 pub starred : Starred

@@ -100,15 +100,15 @@ answer m = m .reply .answer
 
 -- "each 1 admitted or 0 over, bid value, MW, charge": of the first `bids` bids
 abbrev pub bidAnswers : ℕ → Made → List ℕ
-bidAnswers bids m = take (bids * bidAnswerSize) (m .reply .answers)
+bidAnswers bids m = take (bids * bidAnswerSize) (m .reply .lists .answers)
 
 -- "each offered and sold in this round, price or 0"
 abbrev pub pathAnswers : Made → List ℕ
-pathAnswers m = take (m .book .«path_count» * pathAnswerSize) (m .reply .results)
+pathAnswers m = take (m .book .«path_count» * pathAnswerSize) (m .reply .lists .results)
 
 -- the first `n` amounts or shares
 abbrev pub amounts : ℕ → Made → List ℕ
-amounts n m = take n (m .reply .amounts)
+amounts n m = take n (m .reply .lists .amounts)
 
 -- "cash, applied, letter, hold, owed"
 abbrev pub moneyOf : Bidder → List ℕ

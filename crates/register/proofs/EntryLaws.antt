@@ -8,7 +8,7 @@ use native.Mathlib.Omega.{arith}
 use lib.Dec.{leb, ltb, eqb}
 use lib.ListN.{length, getD, length-map}
 use borrow.Author.Tests.{leb-true, ltb-true}
-use Rattle.market.proofs.Every.{every-within}
+use Rattle.market.proofs.Every.{both-true, every-within}
 use Rattle.market.proofs.Filled.{map-snoc}
 use Rattle.market.proofs.Tests.{left-true, right-true}
 use Rattle.market.specs.Books.{every}
@@ -16,7 +16,7 @@ use Rattle.market.specs.Limits.{bidderLimit, quantityLimit, pending, issued}
 use Rattle.market.specs.Sound.{soundPeriod}
 use Rattle.market.specs.declared.book.Entry.{Entry}
 use Rattle.register.proofs.WordLaws.{put-appends, entry-past, entries-length, entries-at, length-snoc}
-use Rattle.register.specs.Entries.{soundEntry, goes, without}
+use Rattle.register.specs.Entries.{soundEntry, withState, issuedTo, goes, without}
 use Rattle.register.specs.Words.{entryAt, entriesOf, entryPut, entriesWritten}
 use Rattle.register.specs.declared.Removal.{Removal}
 
@@ -142,3 +142,34 @@ each-bounds paths words n i h below =
     let is : getD es i e ≡ e = entries-at words n i e below in
     entry-bounds paths e
     (ap (soundEntry paths) (sym is) ∙ every-within (soundEntry paths) es i e (omega (arith, entries-length words n)) h)
+
+-- ---- entries that stay sound
+
+-- an entry that is issued
+issued-state : (paths : ℕ) (e : Entry) → soundEntry paths e ≡ true → soundEntry paths (withState e issued) ≡ true
+issued-state paths e h =
+    let rest =
+    ltb (e .bidder) bidderLimit
+    && ltb (e .path) paths
+    && leb 1 (e .quantity .0)
+    && leb (e .quantity .0) quantityLimit
+    && soundPeriod (e .period)
+    in
+    both-true {s = rest} {t = true} (left-true rest (eqb (e .state) pending || eqb (e .state) issued) h) refl
+
+pub issued-sound : (paths bidder : ℕ) (e : Entry) → soundEntry paths e ≡ true → soundEntry paths (issuedTo bidder e) ≡ true
+issued-sound paths bidder e h = go (eqb (e .bidder) bidder)
+  where
+    go : (t : Bool) → soundEntry paths (cond t (withState e issued) e) ≡ true
+    go true = issued-state paths e h
+    go false = h
+
+-- where each entry passes a test, so does each entry that stays when some are removed
+pub every-without : (test : Entry → Bool) (what : Removal) (es : List Entry) → every test es ≡ true → every test (without what es) ≡ true
+every-without test what [] h = refl
+every-without test what (e ∷ es) h =
+    go (goes what e) (left-true (test e) (every test es) h) (every-without test what es (right-true (test e) (every test es) h))
+  where
+    go : (t : Bool) → test e ≡ true → every test (without what es) ≡ true → every test (cond t (without what es) (e ∷ without what es)) ≡ true
+    go true first rest = rest
+    go false first rest = both-true first rest

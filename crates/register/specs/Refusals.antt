@@ -23,11 +23,16 @@ soundEntries b es = every (soundEntry (b .«path_count»)) es
 abbrev pub countedEntries : Book → List ℕ → List Entry
 countedEntries b words = entriesOf words (b .entries)
 
+-- 1, of the register
+abbrev pub shortRegister : List ℕ → Row
+shortRegister words = ltb (length words) registerWords gives 1
+
+-- 2, of a book and its entries
+abbrev pub unsoundRegister : Book → List Entry → Row
+unsoundRegister b es = not (soundBook b && soundEntries b es) gives 2
+
 abbrev pub registerRefusals : Book → List ℕ → List Row
-registerRefusals b words =
-    (ltb (length words) registerWords gives 1)
-    ∷ (not (soundBook b && soundEntries b (countedEntries b words)) gives 2)
-    ∷ []
+registerRefusals b words = shortRegister words ∷ unsoundRegister b (countedEntries b words) ∷ []
 
 -- what holds of a book and of the register lent with it where neither is refused
 pub record LentRegister (b : Book) (words : List ℕ) : Type 0 where

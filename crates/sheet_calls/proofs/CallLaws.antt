@@ -19,6 +19,7 @@ use Rattle.market.specs.declared.book.Book.{Book}
 use Rattle.market.specs.declared.book.Kind.{Kind}
 use Rattle.market.specs.declared.book.Period.{Period}
 use Rattle.market.specs.declared.book.Route.{Route}
+use Rattle.call_rules.specs.Steps.{outcomeOf}
 use Rattle.call_open.specs.Open.{«open»}
 use Rattle.sheet_form.specs.Slots.{filled, noBidderLine, noPathLine, bidderRows, pathSlots}
 use Rattle.sheet_form.specs.declared.rows.BidderLine.{BidderLine}
@@ -88,7 +89,7 @@ pub slots-opened : (kind : Kind) (period : Period) (bidders : List BidderLine) (
 unfolding openedSlots opened
 slots-opened kind period bidders ps =
     let made = fresh (routesOf ps) (length ps) in
-    let calls : List ℕ → Book → Outcome = λ quantities b. andThen (deposits b bidders) (λ after. «open» after emptyRegister kind period quantities) in
+    let calls : List ℕ → Book → Outcome = λ quantities b. andThen (deposits b bidders) (λ after. outcomeOf («open» kind period quantities) after emptyRegister) in
     let slots = quantitiesIn (length ps) (filled pathLimit noPathLine ps) in
     ap (λ (l : List Route). andThen (fresh l (length ps)) (calls slots)) (map-filled routeOf pathLimit noPathLine ps)
     ∙ unless-alike (answerNumber (made .answer)) made (calls slots (made .book)) (calls (quantitiesOf ps) (made .book))

@@ -14,6 +14,7 @@ use Rattle.market.specs.Books.{every, cents}
 use Rattle.market.specs.Limits.{bidderLimit}
 use Rattle.market.specs.declared.answer.Outcome.{Outcome}
 use Rattle.market.specs.declared.book.Book.{Book}
+use Rattle.call_rules.specs.Steps.{noRegister, outcomeOf}
 use Rattle.call_funding.specs.Deposit.{deposit}
 use Rattle.call_funding.specs.declared.Funds.{Funds}
 use Rattle.call_funding.specs.declared.Funds.the-variants.{Cash, Letter}
@@ -51,7 +52,7 @@ pub none-deposited : (amount : ℕ) (b : Book) (bidder : ℕ) (to : Funds) → a
 none-deposited zero b bidder to none = refl
 none-deposited (suc n) b bidder to none = absurd (let clash : ⊥ = omega (arith, none) in clash)
 
-pub some-deposited : (amount : ℕ) (b : Book) (bidder : ℕ) (to : Funds) → (amount ≡ 0 → ⊥) → deposit b bidder to (cents amount) ≡ depositIf amount b bidder to
+pub some-deposited : (amount : ℕ) (b : Book) (bidder : ℕ) (to : Funds) → (amount ≡ 0 → ⊥) → outcomeOf (deposit bidder to (cents amount)) b noRegister ≡ depositIf amount b bidder to
 some-deposited zero b bidder to some = absurd (some refl)
 some-deposited (suc n) b bidder to some = refl
 

@@ -13,6 +13,7 @@ use Rattle.market.specs.declared.book.Book.{Book}
 use Rattle.market.specs.declared.book.Kind.{Kind}
 use Rattle.market.specs.declared.book.Period.{Period}
 use Rattle.market.specs.declared.book.Route.{Route}
+use Rattle.call_rules.specs.Steps.{outcomeOf}
 use Rattle.call_open.specs.Open.{«open»}
 use Rattle.sheet_form.specs.declared.rows.BidderLine.{BidderLine}
 use Rattle.sheet_form.specs.declared.rows.PathRows.{PathRows}
@@ -27,8 +28,8 @@ pub counted-words : (words : List ℕ) (count : ℕ) → length words ≡ pathLi
 counted-words words count long few = sym (length-take-le (count * quantityWords) words (omega (arith, long)))
 
 module _ (b : Book) (kind : Kind) (period : Period) (paths : PathRows) (words : List ℕ) (are : words ≡ quantitiesOf (paths .lines)) where
-  pub open-is : (o : Outcome) → o ≡ «open» b emptyRegister kind period (take (paths .count * quantityWords) words) → o ≡ openWith b kind period paths
-  open-is o is = is ∙ ap (λ (l : List ℕ). «open» b emptyRegister kind period (take (paths .count * quantityWords) l)) are
+  pub open-is : (o : Outcome) → o ≡ outcomeOf («open» kind period (take (paths .count * quantityWords) words)) b emptyRegister → o ≡ openWith b kind period paths
+  open-is o is = is ∙ ap (λ (l : List ℕ). outcomeOf («open» kind period (take (paths .count * quantityWords) l)) b emptyRegister) are
 
 -- ---- Call by call, as `opened` makes them
 

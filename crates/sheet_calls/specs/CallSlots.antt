@@ -10,6 +10,7 @@ use Rattle.market.specs.declared.answer.Outcome.{Outcome}
 use Rattle.market.specs.declared.book.Book.{Book}
 use Rattle.market.specs.declared.book.Kind.{Kind}
 use Rattle.market.specs.declared.book.Period.{Period}
+use Rattle.call_rules.specs.Steps.{outcomeOf}
 use Rattle.call_open.specs.Open.{«open»}
 use Rattle.sheet_form.specs.declared.rows.BidderLine.{BidderLine}
 use Rattle.sheet_form.specs.declared.rows.PathLine.{PathLine}
@@ -26,7 +27,7 @@ quantitiesIn count slots = take (count * quantityWords) (quantitiesOf slots)
 
 -- open with an empty register and the quantities of as many paths as are counted
 abbrev pub openWith : Book → Kind → Period → PathRows → Outcome
-openWith b kind period paths = «open» b emptyRegister kind period (quantitiesIn (paths .count) (paths .lines))
+openWith b kind period paths = outcomeOf («open» kind period (quantitiesIn (paths .count) (paths .lines))) b emptyRegister
 
 -- "fresh book, deposits, open"
 unfoldable pub openedSlots : Kind → Period → List BidderLine → PathRows → Outcome

@@ -11,6 +11,7 @@ use Rattle.market.specs.declared.book.Book.{Book}
 use Rattle.market.specs.declared.book.Kind.{Kind}
 use Rattle.market.specs.declared.book.Period.{Period}
 use Rattle.market.specs.declared.book.Route.{Route}
+use Rattle.call_rules.specs.Steps.{noRegister, outcomeOf}
 use Rattle.call_funding.specs.Deposit.{deposit}
 use Rattle.call_funding.specs.declared.Funds.{Funds}
 use Rattle.call_funding.specs.declared.Funds.the-variants.{Cash, Letter}
@@ -30,7 +31,7 @@ andThen done next = unlessRefused (answerNumber (done .answer)) done (next (done
 -- "cash, letter (0 means no deposit call)"
 abbrev pub depositIf : ℕ → Book → ℕ → Funds → Outcome
 depositIf zero b bidder to = answered b
-depositIf (suc n) b bidder to = deposit b bidder to (cents (suc n))
+depositIf (suc n) b bidder to = outcomeOf (deposit bidder to (cents (suc n))) b noRegister
 
 abbrev pub lineDeposits : Book → BidderLine → Outcome
 lineDeposits b x =
@@ -60,4 +61,4 @@ emptyRegister = replicate registerWords 0
 unfoldable pub opened : Kind → Period → List BidderLine → List PathLine → Outcome
 opened kind period bidders paths =
     andThen (fresh (routesOf paths) (length paths))
-    (λ b. andThen (deposits b bidders) (λ after. «open» after emptyRegister kind period (quantitiesOf paths)))
+    (λ b. andThen (deposits b bidders) (λ after. outcomeOf («open» kind period (quantitiesOf paths)) after emptyRegister))

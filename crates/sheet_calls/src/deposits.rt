@@ -13,13 +13,13 @@ ghost use Prim.Native.Nat.{_≤_, _<_};
 ghost use lib.ListN.{take};
 ghost use Rattle.market.specs.Books.{every};
 ghost use Rattle.market.specs.Limits.{bidderLimit};
-ghost use Rattle.promise_invariants.specs.State.{SoundState};
+ghost use Rattle.call_rules.specs.State.{SoundMemory};
 ghost use Rattle.sheet_calls.specs.Calls as rules;
 ghost use Rattle.sheet_calls.specs.CallSlots.{isListed};
 
 // A deposit, if the amount is not 0. The book is sound from the first deposit to the last, so it is not tested at each of them.
 fn deposit_if(book: Book, bidder: u32, to: Funds, amount: u64) -> Outcome
-    requires { ⌜ SoundState book rules.emptyRegister ⌝ }
+    requires { ⌜ SoundMemory book rules.emptyRegister ⌝ }
     ensures { λ r. ⌜ r ≡ rules.depositIf amount book bidder to ⌝ }
 {
     if amount == 0 {
@@ -34,7 +34,7 @@ fn deposit_if(book: Book, bidder: u32, to: Funds, amount: u64) -> Outcome
 // The deposits of a line: cash, and then letter.
 fn line_deposits(book: Book, line: BidderLine) -> Outcome
     requires { ⌜ line .bidder < bidderLimit ⌝ }
-    requires { ⌜ SoundState book rules.emptyRegister ⌝ }
+    requires { ⌜ SoundMemory book rules.emptyRegister ⌝ }
     ensures { λ r. ⌜ r ≡ rules.lineDeposits book line ⌝ }
 {
     let bidder = line.bidder as u32;
@@ -50,7 +50,7 @@ fn line_deposits(book: Book, line: BidderLine) -> Outcome
 pub fn deposits(book: Book, rows: BidderRows) -> Outcome
     requires { ⌜ rows .count ≤ bidderLimit ⌝ }
     requires { ⌜ every isListed (rows .lines) ≡ true ⌝ }
-    requires { ⌜ SoundState book rules.emptyRegister ⌝ }
+    requires { ⌜ SoundMemory book rules.emptyRegister ⌝ }
     ensures { λ r. ⌜ r ≡ rules.deposits book (take (rows .count) (rows .lines)) ⌝ }
 {
     let lines = rows.lines;

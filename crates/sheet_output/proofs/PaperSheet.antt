@@ -4,9 +4,10 @@ use mathlib.Core.List.{[], _∷_}
 use Rattle.text_numbers.specs.Decimal.{decimal}
 use Rattle.market.specs.Fresh.{fresh, freshBook}
 use Rattle.market.specs.Sound.{soundBook}
+use Rattle.call_rules.specs.Steps.{refusalOf, outcomeOf, wordsAfter, listAfter}
 use Rattle.call_funding.specs.Deposit.{deposit}
 use Rattle.call_open.specs.Open.{«open»}
-use Rattle.call_round.specs.Round.{awardsNow, round, roundWords, roundBidAnswers, roundPathAnswers}
+use Rattle.call_round.specs.Round.{awardsNow, round}
 use Rattle.round_award_rules.specs.Awards.{awardsOf}
 use Rattle.sheet_form.specs.Form.{formOf}
 use Rattle.sheet_form.specs.Reading.{sheetIn}
@@ -29,8 +30,8 @@ pub paper-sheet :
     ∷ 97 ∷ 119 ∷ 97 ∷ 114 ∷ 100 ∷ 115 ∷ 32 ∷ 50 ∷ 10 ∷ 51 ∷ 32 ∷ 48 ∷ 32 ∷ 53 ∷ 48 ∷ 32 ∷ 55 ∷ 53 ∷ 48 ∷ 48 ∷ 48 ∷ 48 ∷ 10 ∷ 55 ∷ 32 ∷ 48 ∷ 32 ∷ 49 ∷ 48 ∷ 32 ∷ 49 ∷ 53 ∷ 48 ∷ 48 ∷ 48 ∷ 48 ∷ 10 ∷ 98
     ∷ 105 ∷ 100 ∷ 100 ∷ 101 ∷ 114 ∷ 115 ∷ 32 ∷ 50 ∷ 10 ∷ 51 ∷ 32 ∷ 48 ∷ 32 ∷ 49 ∷ 48 ∷ 48 ∷ 48 ∷ 48 ∷ 48 ∷ 32 ∷ 48 ∷ 32 ∷ 48 ∷ 32 ∷ 54 ∷ 53 ∷ 48 ∷ 48 ∷ 48 ∷ 48 ∷ 10 ∷ 55 ∷ 32 ∷ 48 ∷ 32 ∷ 48 ∷ 32 ∷ 49
     ∷ 48 ∷ 48 ∷ 48 ∷ 48 ∷ 48 ∷ 48 ∷ 32 ∷ 49 ∷ 53 ∷ 48 ∷ 48 ∷ 48 ∷ 32 ∷ 49 ∷ 53 ∷ 48 ∷ 48 ∷ 48 ∷ 48 ∷ 10 ∷ []
-unfolding outputOf sheetOutput outputFrom sheetRound opened formOf sheetIn decimal awardText roundText deposit fresh freshBook «open» soundBook round
-    roundWords roundBidAnswers roundPathAnswers awardsNow awardsOf
+unfolding outputOf sheetOutput outputFrom sheetRound opened formOf sheetIn decimal awardText roundText refusalOf outcomeOf wordsAfter listAfter deposit
+    fresh freshBook «open» soundBook round awardsNow awardsOf
 paper-sheet = refl
 
 -- "3 2000000000000 0" gives "refused 11"
@@ -41,6 +42,6 @@ pub refused-deposit :
     ∷ 48 ∷ 32 ∷ 56 ∷ 48 ∷ 32 ∷ 49 ∷ 48 ∷ 48 ∷ 10 ∷ 98 ∷ 105 ∷ 100 ∷ 115 ∷ 32 ∷ 50 ∷ 10 ∷ 51 ∷ 32 ∷ 48 ∷ 32 ∷ 49 ∷ 48 ∷ 48 ∷ 32 ∷ 50 ∷ 32 ∷ 50 ∷ 48 ∷ 48 ∷ 48 ∷ 48 ∷ 32 ∷ 50 ∷ 48 ∷ 32 ∷ 49 ∷ 53 ∷ 48
     ∷ 48 ∷ 48 ∷ 32 ∷ 51 ∷ 48 ∷ 10 ∷ 55 ∷ 32 ∷ 48 ∷ 32 ∷ 49 ∷ 51 ∷ 48 ∷ 32 ∷ 49 ∷ 32 ∷ 49 ∷ 53 ∷ 48 ∷ 48 ∷ 48 ∷ 32 ∷ 52 ∷ 48 ∷ 10 ∷ [])
     ≡ 114 ∷ 101 ∷ 102 ∷ 117 ∷ 115 ∷ 101 ∷ 100 ∷ 32 ∷ 49 ∷ 49 ∷ 10 ∷ []
-unfolding outputOf sheetOutput outputFrom sheetRound opened formOf sheetIn decimal awardText roundText deposit fresh freshBook «open» soundBook round
-    roundWords roundBidAnswers roundPathAnswers awardsNow awardsOf
+unfolding outputOf sheetOutput outputFrom sheetRound opened formOf sheetIn decimal awardText roundText refusalOf outcomeOf wordsAfter listAfter deposit
+    fresh freshBook «open» soundBook round awardsNow awardsOf
 refused-deposit = refl

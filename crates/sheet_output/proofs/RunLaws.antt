@@ -12,7 +12,7 @@ use Rattle.market.specs.declared.answer.Outcome.{Outcome}
 use Rattle.market.specs.declared.book.Kind.{Kind}
 use Rattle.market.specs.declared.book.Kind.the-variants.{Short, Long}
 use Rattle.market.specs.declared.book.Period.{Period}
-use Rattle.promise_invariants.specs.State.{SoundState}
+use Rattle.call_rules.specs.State.{SoundMemory}
 use Rattle.sheet_lines.specs.Lines.{countSaid, daysPlace, titleUsed}
 use Rattle.sheet_lines.specs.declared.part.Part.the-variants.{Bidders, Paths, Bids}
 use Rattle.sheet_form.proofs.FormLaws.{title-long}
@@ -121,9 +121,9 @@ module _ {text : List ℕ} {found : Found} {rows : BidderRows} {slots : PathRows
   answers : answerNumber (begins text form .answer) ≡ 0
   answers = sym (number-is (done .read) (done .opens)) ∙ done .none
 
-  pub run-state : SoundState (o .book) emptyRegister
+  pub run-state : SoundMemory (o .book) emptyRegister
   run-state =
-      subst (λ (x : Outcome). SoundState (x .book) emptyRegister) (sym begun)
+      subst (λ (x : Outcome). SoundMemory (x .book) emptyRegister) (sym begun)
       (opened-state (sheetKind text) (period text form) (bidders text form) (paths text form) answers)
 
   listed-is : take (rows .count) numbers ≡ listed text form

@@ -16,8 +16,11 @@ use Rattle.market.specs.declared.book.Kind.the-variants.{Short, Long}
 use Rattle.market.specs.declared.book.Period.{Period}
 use Rattle.text_numbers.specs.Put.{putAt}
 use Rattle.call_open.specs.Open.{«open»}
-use Rattle.promise_invariants.proofs.KeepOpen.{open-keeps}
-use Rattle.promise_invariants.specs.State.{SoundState}
+use Rattle.call_open.proofs.OpenLaws.{open-lawful}
+use Rattle.call_rules.proofs.StepLaws.{memory-kept}
+use Rattle.call_rules.specs.Rule.{Lists, lists}
+use Rattle.call_rules.specs.Steps.{outcomeOf, wordsAfter}
+use Rattle.call_rules.specs.State.{SoundMemory}
 use Rattle.round_bids.specs.Encoding.{encoded}
 use Rattle.sheet_lines.specs.declared.part.Part.the-variants.{Bidders, Paths, Bids}
 use Rattle.sheet_form.proofs.WordLaws.{words-few}
@@ -48,16 +51,23 @@ module _ (kind : Kind) (period : Period) (bidders : List BidderLine) (paths : Li
   funded = deposits (made .book) bidders
 
   abbrev rest : Outcome
-  rest = andThen funded (λ after. «open» after emptyRegister kind period (quantitiesOf paths))
+  rest = andThen funded (λ after. outcomeOf («open» kind period (quantitiesOf paths)) after emptyRegister)
 
-  opened-with : (n : ℕ) → n ≡ answerNumber (made .answer) → answerNumber (unlessRefused n made rest .answer) ≡ 0 → SoundState (unlessRefused n made rest .book) emptyRegister
+  -- open only reads the register
+  open-keeps : SoundMemory (funded .book) emptyRegister → SoundMemory (outcomeOf («open» kind period (quantitiesOf paths)) (funded .book) emptyRegister .book) emptyRegister
+  unfolding wordsAfter «open»
+  open-keeps state =
+      let none : Lists = lists [] [] [] in
+      memory-kept («open» kind period (quantitiesOf paths)) none (open-lawful kind period (quantitiesOf paths) none) (funded .book) emptyRegister state
+
+  opened-with : (n : ℕ) → n ≡ answerNumber (made .answer) → answerNumber (unlessRefused n made rest .answer) ≡ 0 → SoundMemory (unlessRefused n made rest .book) emptyRegister
   opened-with zero is none =
       let state = deposits-keep (made .book) emptyRegister bidders (fresh-keeps (routesOf paths) (length paths) (sym is)) in
-      next-keeps (answerNumber (funded .answer)) funded («open» (funded .book) emptyRegister kind period (quantitiesOf paths)) emptyRegister state
-      (open-keeps (funded .book) emptyRegister kind period (quantitiesOf paths) state)
+      next-keeps (answerNumber (funded .answer)) funded (outcomeOf («open» kind period (quantitiesOf paths)) (funded .book) emptyRegister) emptyRegister state
+      (open-keeps state)
   opened-with (suc n) is none = absurd (let bad : ⊥ = omega (arith, is, none) in bad)
 
-  pub opened-state : answerNumber (opened kind period bidders paths .answer) ≡ 0 → SoundState (opened kind period bidders paths .book) emptyRegister
+  pub opened-state : answerNumber (opened kind period bidders paths .answer) ≡ 0 → SoundMemory (opened kind period bidders paths .book) emptyRegister
   unfolding opened
   opened-state none = opened-with (answerNumber (made .answer)) refl none
 

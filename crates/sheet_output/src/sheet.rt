@@ -21,7 +21,7 @@ ghost use Rattle.sheet_lines.specs.declared.part.Part.the-variants.{Bids};
 ghost use Rattle.sheet_form.specs.Form.{formOf, PlacesAre};
 ghost use Rattle.sheet_form.specs.Reading.{sheetIn, partAt, afterPart, atRounds};
 ghost use Rattle.sheet_form.specs.Words.{sectionWords};
-ghost use Rattle.promise_invariants.specs.State.{SoundState};
+ghost use Rattle.call_rules.specs.State.{SoundMemory};
 ghost use Rattle.sheet_calls.specs.Calls.{emptyRegister};
 ghost use Rattle.award_sheet_parts.specs.AwardSheet.{isBidder};
 ghost use Rattle.sheet_rounds.specs.Rounds.{outputFrom};
@@ -31,7 +31,7 @@ ghost use Rattle.sheet_output.specs.Output.{sheetOutput};
 fn run_short(bytes: &[u8], found: Found, book: Book, listed: &[u32], out: &mut [u8]) -> usize
     requires { ⌜ length (now bytes) ≤ sheetBytes ⌝ }
     requires { ⌜ PlacesAre (now bytes) (titleUsed (now bytes)) found ⌝ }
-    requires { ⌜ SoundState book emptyRegister ⌝ }
+    requires { ⌜ SoundMemory book emptyRegister ⌝ }
     requires { ⌜ every isBidder (now listed) ≡ true ⌝ }
     requires { ⌜ length (now listed) ≤ bidderLimit ⌝ }
     requires { ⌜ awardSheetBytes ≤ length (now out) ⌝ }
@@ -49,7 +49,7 @@ fn run_short(bytes: &[u8], found: Found, book: Book, listed: &[u32], out: &mut [
 fn run_long(bytes: &[u8], found: Found, book: Book, listed: &[u32], out: &mut [u8]) -> usize
     requires { ⌜ length (now bytes) ≤ sheetBytes ⌝ }
     requires { ⌜ PlacesAre (now bytes) (titleUsed (now bytes)) found ⌝ }
-    requires { ⌜ SoundState book emptyRegister ⌝ }
+    requires { ⌜ SoundMemory book emptyRegister ⌝ }
     requires { ⌜ every isBidder (now listed) ≡ true ⌝ }
     requires { ⌜ length (now listed) ≤ bidderLimit ⌝ }
     requires { ⌜ awardSheetBytes ≤ length (now out) ⌝ }

@@ -12,19 +12,19 @@ use Rattle.market.specs.Limits.{bidderLimit, pathLimit, awardSheetBytes}
 use Rattle.market.specs.declared.answer.Outcome.{Outcome}
 use Rattle.market.specs.declared.book.Book.{Book}
 use Rattle.round_bids.specs.Bids.{bidsOf}
-use Rattle.round_charges.specs.Charges.{bidRows}
-use Rattle.round_paths.specs.PathRows.{pathRows}
 use Rattle.call_round.proofs.ReadyLaws.{listed}
-use Rattle.call_round.specs.Round.{offeredNow, marksNow, wonNow, soldNow, pricesNow, round, roundWords, roundBidAnswers, roundPathAnswers}
-use Rattle.promise_invariants.specs.State.{SoundState}
-use Rattle.promise_invariants.proofs.KeepRound.{round-keeps}
-use Rattle.engine.specs.Lent.{Lent, lent}
-use Rattle.promise.proofs.RoundAnswers.{opened, answers-are, results-are, same-paths}
+use Rattle.call_round.proofs.RoundLawful.{round-lawful}
+use Rattle.call_round.specs.Round.{bidAnswersNow, pathAnswersNow}
+use Rattle.call_rules.specs.State.{SoundMemory}
+use Rattle.call_rules.proofs.StepLaws.{memory-kept}
+use Rattle.call_rules.specs.Steps.{outcomeOf, wordsAfter, listAfter, toAnswers, toResults}
+use Rattle.engine.specs.Lent.{Lent, lent, listsOf}
+use Rattle.promise.proofs.RoundAnswers.{opened, answers-are, results-are, same-count}
 use Rattle.sheet_calls.specs.Calls.{emptyRegister}
 use Rattle.award_sheet_round.specs.RoundLines.{RoundMade}
 use Rattle.award_sheet_parts.specs.AwardSheet.{isBidder, awardText, refusedText}
 use Rattle.award_sheet.specs.Rounds.{made, Answered}
-use Rattle.sheet_rounds.specs.Rounds.{Progress, answersLent, resultsLent, scratchLent, sheetRound, roundsOutput, ended, outputFrom}
+use Rattle.sheet_rounds.specs.Rounds.{Progress, answersLent, resultsLent, scratchLent, roundWith, sheetRound, roundsOutput, ended, outputFrom}
 use Rattle.award_sheet.proofs.AwardLength.{RoundSizes, award-fits}
 use Rattle.sheet_rounds.proofs.RoundLength.{round-sizes}
 
@@ -35,16 +35,16 @@ laid-long before rows =
 
 module _ (b : Book) (words bids : List ℕ) where
   abbrev pub answerOf : Outcome
-  answerOf = round b words bids answersLent resultsLent scratchLent
+  answerOf = outcomeOf (roundWith bids) b words
 
-  abbrev pub wordsAfter : List ℕ
-  wordsAfter = roundWords b words bids answersLent resultsLent scratchLent
+  abbrev pub wordsThen : List ℕ
+  wordsThen = wordsAfter (roundWith bids) b words
 
   abbrev pub bidAnswers : List ℕ
-  bidAnswers = roundBidAnswers b words bids answersLent resultsLent scratchLent
+  bidAnswers = listAfter toAnswers (roundWith bids) b words answersLent
 
   abbrev pub pathAnswers : List ℕ
-  pathAnswers = roundPathAnswers b words bids answersLent resultsLent scratchLent
+  pathAnswers = listAfter toResults (roundWith bids) b words resultsLent
 
   abbrev pub madeBy : RoundMade
   madeBy = made bids bidAnswers pathAnswers
@@ -53,42 +53,42 @@ module _ (b : Book) (words bids : List ℕ) where
   abbrev lentFor : Lent
   lentFor = lent [] bids [] [] [] [] [] [] answersLent resultsLent scratchLent
 
-  module _ (state : SoundState b words) (none : answerNumber (answerOf .answer) ≡ 0) where
-    pub state-after : SoundState (answerOf .book) wordsAfter
-    state-after = round-keeps b words bids answersLent resultsLent scratchLent state
+  module _ (state : SoundMemory b words) (none : answerNumber (answerOf .answer) ≡ 0) where
+    pub state-after : SoundMemory (answerOf .book) wordsThen
+    state-after = memory-kept (roundWith bids) (listsOf lentFor) (round-lawful bids (listsOf lentFor) scratchLent) b words state
 
     pub paths-same : answerOf .book .«path_count» ≡ b .«path_count»
-    paths-same = same-paths b words lentFor none
+    paths-same = same-count b words lentFor none
 
     pub sizes-after : RoundSizes (b .«path_count») madeBy
-    sizes-after = round-sizes b words lentFor (state .sound) none
+    sizes-after = round-sizes b words lentFor (state .state .sound) none
 
     pub lists-are : Answered bids bidAnswers pathAnswers
     lists-are =
         let o = opened b words lentFor none in
         record {
           list = listed b words bids answersLent resultsLent scratchLent (o .early);
-          answers-long = rw (answers-are b words lentFor none) (laid-long answersLent (bidRows (marksNow b (bidsOf bids)) (wonNow b (bidsOf bids)) (pricesNow b (bidsOf bids)) (bidsOf bids)));
-          results-long = rw (results-are b words lentFor none) (laid-long resultsLent (pathRows (offeredNow b) (soldNow b (bidsOf bids)) (pricesNow b (bidsOf bids)) (b .«path_count»)));
+          answers-long = rw (answers-are b words lentFor none) (laid-long answersLent (bidAnswersNow b (bidsOf bids)));
+          results-long = rw (results-are b words lentFor none) (laid-long resultsLent (pathAnswersNow b (bidsOf bids)));
         }
 
 -- ---- The award sheet fits
 
-few-paths : (b : Book) (words : List ℕ) → SoundState b words → b .«path_count» ≤ pathLimit
-few-paths b words state = count-within (b .«path_count») (sound-parts b (state .sound) .path-count)
+few-paths : (b : Book) (words : List ℕ) → SoundMemory b words → b .«path_count» ≤ pathLimit
+few-paths b words state = count-within (b .«path_count») (sound-parts b (state .state .sound) .path-count)
 
-module _ (b : Book) (words bids listed : List ℕ) (state : SoundState b words) (none : answerNumber (answerOf b words bids .answer) ≡ 0) (few : length listed ≤ bidderLimit)
+module _ (b : Book) (words bids listed : List ℕ) (state : SoundMemory b words) (none : answerNumber (answerOf b words bids .answer) ≡ 0) (few : length listed ≤ bidderLimit)
     (all : every isBidder listed ≡ true) where
   sizes : RoundSizes (answerOf b words bids .book .«path_count») (madeBy b words bids)
   sizes = subst (λ (n : ℕ). RoundSizes n (madeBy b words bids)) (sym (paths-same b words bids state none)) (sizes-after b words bids state none)
 
   pub paths-within : answerOf b words bids .book .«path_count» ≤ pathLimit
-  paths-within = few-paths (answerOf b words bids .book) (wordsAfter b words bids) (state-after b words bids state none)
+  paths-within = few-paths (answerOf b words bids .book) (wordsThen b words bids) (state-after b words bids state none)
 
   pub one-fits : length (awardText (madeBy b words bids ∷ []) (answerOf b words bids .book) listed) ≤ awardSheetBytes
   one-fits =
       award-fits (madeBy b words bids ∷ []) (answerOf b words bids .book) listed (omega arith) (sizes, tt)
-      (state-after b words bids state none .sound) few all
+      (state-after b words bids state none .state .sound) few all
 
 -- ---- The output of a short auction
 
@@ -125,7 +125,7 @@ pub record OneDone (b : Book) (bids listed answers results : List ℕ) (after : 
   pub fits : length (awardText (made bids answers results ∷ []) after listed) ≤ awardSheetBytes
   pub output : outputFrom (answered b) listed (bids ∷ []) ≡ awardText (made bids answers results ∷ []) after listed
 
-module _ (b : Book) (bids listed : List ℕ) (state : SoundState b emptyRegister) (few : length listed ≤ bidderLimit) (all : every isBidder listed ≡ true) where
+module _ (b : Book) (bids listed : List ℕ) (state : SoundMemory b emptyRegister) (few : length listed ≤ bidderLimit) (all : every isBidder listed ≡ true) where
   pub one-done :
       {o : Outcome} {answers results : List ℕ} → o ≡ answerOf b emptyRegister bids → answers ≡ bidAnswers b emptyRegister bids → results ≡ pathAnswers b emptyRegister bids
       → answerNumber (o .answer) ≡ 0 → OneDone b bids listed answers results (o .book)

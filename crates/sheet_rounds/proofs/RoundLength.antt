@@ -23,12 +23,12 @@ use Rattle.round_bids.specs.Encoding.{rightBids}
 use Rattle.round_bids.specs.declared.Lamination.{Lamination}
 use Rattle.round_award_rules.proofs.RoundClaims.{bids-at}
 use Rattle.round_charges.specs.Charges.{soundClearingPrice}
-use Rattle.promise_invariants.proofs.ChargeLimits.{all-bids}
+use Rattle.call_round.proofs.ChargeLimits.{all-bids}
 use Rattle.call_round.proofs.RoundBounds.{noBid, offered-quantities, won-quantities, sold-quantities, price-bounds}
 use Rattle.call_round.specs.Answers.{valueIn, wonIn, chargeIn, offeredIn, soldIn, priceIn}
-use Rattle.call_round.specs.Round.{offeredNow, marksNow, wonNow, soldNow, pricesNow, round, roundBidAnswers, roundPathAnswers}
+use Rattle.call_round.specs.Round.{offeredNow, marksNow, wonNow, soldNow, pricesNow}
 use Rattle.engine.specs.Lent.{Lent}
-use Rattle.promise.proofs.RoundAnswers.{opened, answers-are, results-are}
+use Rattle.promise.proofs.RoundAnswers.{roundMade, opened, answers-are, results-are}
 use Rattle.promise.proofs.RowReads.{value-read, won-read, charge-read, offered-read, sold-read, price-read}
 use Rattle.award_sheet.proofs.AwardLength.{BidSizes, PathSizes, RoundSizes}
 use Rattle.sheet_rounds.proofs.FewBids.{sound-placed, all-sound, bids-at-most}
@@ -50,15 +50,15 @@ value-small paths b sound =
     let most = leb-true n laminationLimit (right-true few (leb n laminationLimit) (left-true head pairs sound)) in
     omega (arith, pairs-value abovePrices (b .laminations) (right-true head pairs sound), most)
 
-module _ (b : Book) (words : List ℕ) (l : Lent) (sound : soundBook b ≡ true) (none : answerNumber (round b words (l .bids) (l .answers) (l .results) (l .scratch) .answer) ≡ 0) where
+module _ (b : Book) (words : List ℕ) (l : Lent) (sound : soundBook b ≡ true) (none : answerNumber (roundMade b words l .reply .answer) ≡ 0) where
   abbrev bids : List Bid
   bids = bidsOf (l .bids)
 
   abbrev answers : List ℕ
-  answers = roundBidAnswers b words (l .bids) (l .answers) (l .results) (l .scratch)
+  answers = roundMade b words l .reply .lists .answers
 
   abbrev results : List ℕ
-  results = roundPathAnswers b words (l .bids) (l .answers) (l .results) (l .scratch)
+  results = roundMade b words l .reply .lists .results
 
   few-paths : b .«path_count» ≤ pathLimit
   few-paths = count-within (b .«path_count») (sound-parts b sound .path-count)

@@ -10,14 +10,14 @@ use Rattle.market.specs.Books.{every}
 use Rattle.market.specs.Limits.{bidderLimit, pathLimit, awardSheetBytes}
 use Rattle.market.specs.declared.answer.Outcome.{Outcome}
 use Rattle.market.specs.declared.book.Book.{Book}
-use Rattle.promise_invariants.specs.State.{SoundState}
+use Rattle.call_rules.specs.State.{SoundMemory}
 use Rattle.sheet_calls.specs.Calls.{emptyRegister}
 use Rattle.award_sheet_round.specs.RoundLines.{RoundMade}
 use Rattle.award_sheet_parts.specs.AwardSheet.{isBidder, awardText, refusedText}
 use Rattle.award_sheet.specs.Rounds.{made, Answered}
 use Rattle.sheet_rounds.specs.Rounds.{Progress, sheetRound, unlessStopped, ended, outputFrom}
 use Rattle.award_sheet.proofs.AwardLength.{RoundSizes, award-fits}
-use Rattle.sheet_rounds.proofs.RoundDone.{answerOf, wordsAfter, bidAnswers, pathAnswers, madeBy, state-after}
+use Rattle.sheet_rounds.proofs.RoundDone.{answerOf, wordsThen, bidAnswers, pathAnswers, madeBy, state-after}
 use Rattle.sheet_rounds.proofs.RoundDone.{paths-same, sizes-after, lists-are, paths-within, written-answered, written-refused}
 
 pub stopped : (n : ℕ) (done next : Progress) → (n ≡ 0 → ⊥) → unlessStopped n done next ≡ done
@@ -42,7 +42,7 @@ module _ (b : Book) (first second : List ℕ) where
   book = answerOf b emptyRegister first .book
 
   abbrev words : List ℕ
-  words = wordsAfter b emptyRegister first
+  words = wordsThen b emptyRegister first
 
   abbrev pub firstNumber : ℕ
   firstNumber = answerNumber (answerOf b emptyRegister first .answer)
@@ -89,9 +89,9 @@ module _ (b : Book) (first second : List ℕ) where
       unfolding sheetRound
       both-answered fine = goes ∙ written-answered laterNumber listed two fine
 
-    module _ (state : SoundState b emptyRegister) (few : length listed ≤ bidderLimit) (all : every isBidder listed ≡ true) where
+    module _ (state : SoundMemory b emptyRegister) (few : length listed ≤ bidderLimit) (all : every isBidder listed ≡ true) where
       module _ (none : firstNumber ≡ 0) (fine : laterNumber ≡ 0) where
-        between : SoundState book words
+        between : SoundMemory book words
         between = state-after b emptyRegister first state none
 
         same : later .book .«path_count» ≡ book .«path_count»
@@ -113,7 +113,7 @@ module _ (b : Book) (first second : List ℕ) where
               paths = paths-within book words second listed between fine few all;
               fits =
                   award-fits rounds (later .book) listed (omega arith) (first-sizes, (second-sizes, tt))
-                  (state-after book words second between fine .sound) few all;
+                  (state-after book words second between fine .state .sound) few all;
               output = both-answered none fine;
             }
 

@@ -6,7 +6,9 @@ use Rattle.market.specs.Answers.{answerNumber}
 use Rattle.market.specs.Limits.{bidAnswerWords, pathAnswerWords, scratchWords}
 use Rattle.market.specs.declared.answer.Outcome.{Outcome}
 use Rattle.market.specs.declared.book.Book.{Book}
-use Rattle.call_round.specs.Round.{round, roundWords, roundBidAnswers, roundPathAnswers}
+use Rattle.call_rules.specs.Rule.{Rule}
+use Rattle.call_rules.specs.Steps.{outcomeOf, wordsAfter, listAfter, toAnswers, toResults}
+use Rattle.call_round.specs.Round.{round}
 use Rattle.sheet_calls.specs.Calls.{emptyRegister}
 use Rattle.award_sheet_round.specs.RoundLines.{RoundMade}
 use Rattle.award_sheet_parts.specs.AwardSheet.{awardText, refusedText}
@@ -29,15 +31,17 @@ abbrev pub scratchLent : List ℕ
 scratchLent = replicate scratchWords 0
 
 -- a round, called with the words of its bids
+abbrev pub roundWith : List ℕ → Rule
+roundWith bids = round bids answersLent resultsLent scratchLent
+
 unfoldable pub sheetRound : Book → List ℕ → List RoundMade → List ℕ → Progress
 sheetRound b words before bids =
     record {
-      outcome = round b words bids answersLent resultsLent scratchLent;
-      words = roundWords b words bids answersLent resultsLent scratchLent;
+      outcome = outcomeOf (roundWith bids) b words;
+      words = wordsAfter (roundWith bids) b words;
       rounds =
           before
-          ++ (made bids (roundBidAnswers b words bids answersLent resultsLent scratchLent)
-          (roundPathAnswers b words bids answersLent resultsLent scratchLent)
+          ++ (made bids (listAfter toAnswers (roundWith bids) b words answersLent) (listAfter toResults (roundWith bids) b words resultsLent)
           ∷ []);
     }
 

@@ -13,8 +13,9 @@ ghost use Rattle.market.specs.Answers.{answered};
 ghost use Rattle.market.specs.Books.{every};
 ghost use Rattle.market.specs.Limits.{awardSheetBytes, bidderLimit};
 ghost use Rattle.text_numbers.specs.Put.{Put};
-ghost use Rattle.call_round.specs.Round as rounds;
-ghost use Rattle.promise_invariants.specs.State.{SoundState};
+ghost use Rattle.call_rules.specs.Steps.{outcomeOf, wordsAfter, listAfter, toAnswers, toResults};
+ghost use Rattle.call_round.specs.Round.{round};
+ghost use Rattle.call_rules.specs.State.{SoundMemory};
 ghost use Rattle.sheet_calls.specs.Calls.{emptyRegister};
 ghost use Rattle.award_sheet_parts.specs.AwardSheet.{isBidder};
 ghost use Rattle.sheet_rounds.specs.Rounds.{scratchLent, outputFrom};
@@ -27,13 +28,15 @@ fn round_of(
     answers: &mut [u64],
     results: &mut [u64],
 ) -> Outcome
-    ensures outcome { λ r. ⌜ r ≡ rounds.round book (now (words .entry)) (now (bids .entry)) (now (answers .entry)) (now (results .entry)) scratchLent ⌝ }
-    ensures register { λ r. ⌜
-        now (words .exit) ≡ rounds.roundWords book (now (words .entry)) (now (bids .entry)) (now (answers .entry)) (now (results .entry)) scratchLent ⌝ }
+    ensures outcome { λ r. ⌜ r ≡ outcomeOf (round (now (bids .entry)) (now (answers .entry)) (now (results .entry)) scratchLent) book (now (words .entry)) ⌝ }
+    ensures register { λ r. ⌜ now (words .exit)
+        ≡ wordsAfter (round (now (bids .entry)) (now (answers .entry)) (now (results .entry)) scratchLent) book (now (words .entry)) ⌝ }
     ensures bids { λ r. ⌜ now (answers .exit)
-        ≡ rounds.roundBidAnswers book (now (words .entry)) (now (bids .entry)) (now (answers .entry)) (now (results .entry)) scratchLent ⌝ }
+        ≡ listAfter toAnswers (round (now (bids .entry)) (now (answers .entry)) (now (results .entry)) scratchLent) book (now (words .entry))
+        (now (answers .entry)) ⌝ }
     ensures paths { λ r. ⌜ now (results .exit)
-        ≡ rounds.roundPathAnswers book (now (words .entry)) (now (bids .entry)) (now (answers .entry)) (now (results .entry)) scratchLent ⌝ }
+        ≡ listAfter toResults (round (now (bids .entry)) (now (answers .entry)) (now (results .entry)) scratchLent) book (now (words .entry))
+        (now (results .entry)) ⌝ }
 {
     let mut scratch = [0u32; Engine::SCRATCH_WORDS];
     call_round::round(book, words, bids, answers, results, &mut scratch)
@@ -41,7 +44,7 @@ fn round_of(
 
 // Writes the output of a short auction with these bids, for the bidders listed.
 pub fn short_output(book: Book, bids: &[u32], listed: &[u32], out: &mut [u8]) -> usize
-    requires { ⌜ SoundState book emptyRegister ⌝ }
+    requires { ⌜ SoundMemory book emptyRegister ⌝ }
     requires { ⌜ every isBidder (now listed) ≡ true ⌝ }
     requires { ⌜ length (now listed) ≤ bidderLimit ⌝ }
     requires { ⌜ awardSheetBytes ≤ length (now out) ⌝ }
@@ -61,7 +64,7 @@ pub fn short_output(book: Book, bids: &[u32], listed: &[u32], out: &mut [u8]) ->
 
 // Writes the output of a long auction, with the bids of its first round and the later ones of its second.
 pub fn long_output(book: Book, bids: &[u32], later: &[u32], listed: &[u32], out: &mut [u8]) -> usize
-    requires { ⌜ SoundState book emptyRegister ⌝ }
+    requires { ⌜ SoundMemory book emptyRegister ⌝ }
     requires { ⌜ every isBidder (now listed) ≡ true ⌝ }
     requires { ⌜ length (now listed) ≤ bidderLimit ⌝ }
     requires { ⌜ awardSheetBytes ≤ length (now out) ⌝ }

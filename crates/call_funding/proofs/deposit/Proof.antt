@@ -3,19 +3,18 @@
 use mathlib.Core.Path.{sym, _∙_}
 use native.Mathlib.Omega.{arith}
 use borrow.Author.Tests.{not-true, not-false}
-use Rattle.market.proofs.Tables.{refuses}
-use Rattle.market.specs.Answers.{answered}
-use Rattle.market.specs.Books.{bidderOf, withBidder}
-use Rattle.call_funding.specs.Deposit.{withDeposit, depositRefusals, deposit}
+use Rattle.call_rules.proofs.Decides.{refuses}
+use Rattle.call_rules.specs.Steps.{noRegister, refusalOf}
+use Rattle.call_funding.specs.Deposit.{deposit}
 use borrow.Author.Needs.{needs}
 use Rattle.call_funding.proofs.deposit.Statement.{statement}
 use Rattle.call_funding.proofs.deposit.Tie as tie
 
 returns : tie.Need-returns
-unfolding deposit
+unfolding refusalOf deposit
 returns c =
     let a = c .before .before .args in
-    refuses (a .book) (depositRefusals (a .book) (a .bidder) (a .to) (a .amount)) (answered (withBidder (a .book) (a .bidder) (withDeposit (bidderOf (a .book) (a .bidder)) (a .to) (a .amount)))) 2
+    refuses (deposit (a .bidder) (a .to) (a .amount)) (a .book) noRegister 2
     (rw (sym (c .before .sound-book .ensures) ∙ not-true _ (c .if1 .taken))) (λ e. omega (arith, e))
 
 deposit-sound-requires : tie.Need-deposit-sound-requires

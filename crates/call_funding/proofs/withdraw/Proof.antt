@@ -3,19 +3,18 @@
 use mathlib.Core.Path.{sym, _∙_}
 use native.Mathlib.Omega.{arith}
 use borrow.Author.Tests.{not-true, not-false}
-use Rattle.market.proofs.Tables.{refuses}
-use Rattle.market.specs.Answers.{answered}
-use Rattle.market.specs.Books.{bidderOf, withBidder}
-use Rattle.call_funding.specs.Withdraw.{debited, withdrawRefusals, withdraw}
+use Rattle.call_rules.proofs.Decides.{refuses}
+use Rattle.call_rules.specs.Steps.{noRegister, refusalOf}
+use Rattle.call_funding.specs.Withdraw.{withdraw}
 use borrow.Author.Needs.{needs}
 use Rattle.call_funding.proofs.withdraw.Statement.{statement}
 use Rattle.call_funding.proofs.withdraw.Tie as tie
 
 returns : tie.Need-returns
-unfolding withdraw
+unfolding refusalOf withdraw
 returns c =
     let a = c .before .before .args in
-    refuses (a .book) (withdrawRefusals (a .book) (a .bidder) (a .from) (a .amount)) (answered (withBidder (a .book) (a .bidder) (debited (bidderOf (a .book) (a .bidder)) (a .from) (a .amount)))) 2
+    refuses (withdraw (a .bidder) (a .from) (a .amount)) (a .book) noRegister 2
     (rw (sym (c .before .sound-book .ensures) ∙ not-true _ (c .if1 .taken))) (λ e. omega (arith, e))
 
 withdraw-sound-requires : tie.Need-withdraw-sound-requires

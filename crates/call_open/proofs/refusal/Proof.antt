@@ -5,33 +5,36 @@ use mathlib.Core.Path.{refl, sym, _∙_}
 use mathlib.Core.List.{_++_}
 use Rattle.market.proofs.Tables.{first-stands, second-decides}
 use Rattle.register.specs.Refusals.{registerRefusals}
+use Rattle.call_rules.specs.Steps.{refusalOf}
 use Rattle.call_open.proofs.Cleared.{lent-cleared}
-use Rattle.call_open.specs.Open.{quantityListRefusals, openRefusals}
+use Rattle.call_open.specs.Open.{shortQuantities, openRefusals, «open»}
 use borrow.Author.Needs.{needs}
 use Rattle.call_open.proofs.refusal.Statement.{statement}
 use Rattle.call_open.proofs.refusal.Tie as tie
 
 returns : tie.Need-returns
-returns c =
+unfolding refusalOf «open»
+returns c = λ kind.
     let a = c .before .before .before .before .args in
     let is = c .before .lent-refusal .ensures in
     is
     ∙ sym
-    (first-stands (quantityListRefusals (a .book) (a .quantities .now) ++ registerRefusals (a .book) (a .words .now))
+    (first-stands (shortQuantities (a .book) (a .quantities .now) ++ registerRefusals (a .book) (a .words .now))
     (openRefusals (a .book) (a .period) (a .quantities .now)) (λ z. c .if1 .taken (is ∙ z)))
 
 own-refusal-requires : tie.Need-own-refusal-requires
 own-refusal-requires c κs =
     let a = c .before .before .before .before .args in
-    lent-cleared (a .book) (a .words .now) (a .period) (a .quantities .now)
+    lent-cleared (a .book) (a .words .now) (a .quantities .now)
     (sym (c .before .lent-refusal .ensures) ∙ c .if1 .left) .long
 
 returns-2 : tie.Need-returns-2
-returns-2 c =
+unfolding refusalOf «open»
+returns-2 c = λ kind.
     let a = c .before .before .before .before .before .args in
     c .own-refusal .ensures
     ∙ sym
-    (second-decides (quantityListRefusals (a .book) (a .quantities .now) ++ registerRefusals (a .book) (a .words .now))
+    (second-decides (shortQuantities (a .book) (a .quantities .now) ++ registerRefusals (a .book) (a .words .now))
     (openRefusals (a .book) (a .period) (a .quantities .now)) refl
     (sym (c .before .before .lent-refusal .ensures) ∙ c .before .if1 .left))
 

@@ -7,57 +7,59 @@ use mathlib.Core.List.{List, _++_}
 use Prim.Native.Nat.{ℕ}
 use native.Mathlib.Omega.{arith}
 use lib.IntN.{pos, _-ℤ_}
-use lib.ListN.{drop}
 use borrow.Author.Tests.{not-true, not-false}
 use Rattle.market.proofs.SoundLaws.{sound-parts}
-use Rattle.market.proofs.Tables.{refuses, takes, list-stays, list-changes}
-use Rattle.market.specs.Answers.{Row, answered, refused, firstOf}
-use Rattle.market.specs.Books.{balance, withAccount}
-use Rattle.market.specs.Limits.{bidderLimit}
+use Rattle.market.specs.Answers.{answered, refused, firstOf}
+use Rattle.market.specs.Books.{balance, withAccount, withFront}
 use Rattle.market.specs.Sound.{soundAccount}
 use Rattle.market.specs.declared.answer.Outcome.{Outcome}
 use Rattle.market.specs.declared.book.Entry.{Entry}
 use Rattle.market.specs.declared.units.Balance.{Balance}
 use Rattle.register.specs.Refusals.{registerRefusals, countedEntries}
+use Rattle.call_rules.proofs.Decides.{refuses, list-stays, takes, list-changes}
+use Rattle.call_rules.specs.Rule.{Rule}
+use Rattle.call_rules.specs.Steps.{refusalOf, outcomeOf, listAfter, toAmounts}
 use Rattle.call_payout.proofs.Cleared.{AllLent, lent-cleared, prices-cleared, lent-decides, hour-decides, account-decides}
-use Rattle.call_payout.specs.Payout.{amountsOf, accountPaying, payoutListRefusals, hourRefusals, payoutTable, payout, payoutAmounts}
+use Rattle.call_payout.specs.Payout.{amountsOf, accountPaying, shortPayoutLists, hourRefusals, payout}
 use borrow.Author.Needs.{needs}
 use Rattle.call_payout.proofs.payout.Statement.{statement}
 use Rattle.call_payout.proofs.payout.Tie as tie
 
--- what the table decides
+-- what the rule leaves
 module _ (s : tie.Start) where
-  abbrev table : List Row
-  table = payoutTable (s .args .book) (s .args .words .now) (s .args .day) (s .args .failed) (s .args .prices .now) (s .args .lent .now)
+  abbrev rule : Rule
+  rule = payout (s .args .day) (s .args .failed) (s .args .prices .now) (s .args .lent .now)
 
   abbrev entries : List Entry
   entries = countedEntries (s .args .book) (s .args .words .now)
 
-  abbrev paying : Outcome
-  paying = answered (withAccount (s .args .book) (accountPaying (s .args .book) (s .args .day) (s .args .failed) (s .args .prices .now) entries))
-
-  abbrev written : List ℕ
-  written = amountsOf (s .args .book) (s .args .day) (s .args .failed) (s .args .prices .now) entries ++ drop bidderLimit (s .args .lent .now)
-
   abbrev Leaves : Outcome → List ℕ → Type 0
   Leaves outcome lent =
-      (outcome ≡ payout (s .args .book) (s .args .words .now) (s .args .day) (s .args .failed) (s .args .prices .now) (s .args .lent .now))
-      × (lent ≡ payoutAmounts (s .args .book) (s .args .words .now) (s .args .day) (s .args .failed) (s .args .prices .now) (s .args .lent .now))
+      (outcome ≡ outcomeOf rule (s .args .book) (s .args .words .now))
+      × (lent ≡ listAfter toAmounts rule (s .args .book) (s .args .words .now) (s .args .lent .now))
 
-  refusing : (n : ℕ) → n ≡ firstOf table → (n ≡ 0 → ⊥) → Leaves (refused (s .args .book) n) (s .args .lent .now)
-  unfolding payout payoutAmounts
-  refusing n is some = (refuses (s .args .book) table paying n is some, list-stays (s .args .lent .now) table written n is some)
+  refusing : (n : ℕ) → n ≡ refusalOf rule (s .args .book) (s .args .words .now) → (n ≡ 0 → ⊥) → Leaves (refused (s .args .book) n) (s .args .lent .now)
+  refusing n is some = (
+    refuses rule (s .args .book) (s .args .words .now) n is some,
+    list-stays rule (s .args .book) (s .args .words .now) n is some toAmounts (s .args .lent .now),
+  )
 
-  taking : 0 ≡ firstOf table → Leaves paying written
-  unfolding payout payoutAmounts
-  taking is = (takes (s .args .book) table paying 0 is refl, list-changes (s .args .lent .now) table written 0 is refl)
+  taking :
+      0 ≡ refusalOf rule (s .args .book) (s .args .words .now)
+      → Leaves (answered (withAccount (s .args .book) (accountPaying (s .args .book) (s .args .day) (s .args .failed) (s .args .prices .now) entries)))
+      (withFront (amountsOf (s .args .book) (s .args .day) (s .args .failed) (s .args .prices .now) entries) (s .args .lent .now))
+  unfolding payout
+  taking is = (
+    takes rule (s .args .book) (s .args .words .now) 0 is refl,
+    list-changes rule (s .args .book) (s .args .words .now) 0 is refl toAmounts (s .args .lent .now),
+  )
 
 -- nothing lent is refused
 module _ (p : tie.Else1) where
   abbrev start : tie.Start
   start = p .before .before .before .before .before
 
-  none : firstOf (payoutListRefusals (start .args .prices .now) (start .args .lent .now) ++ registerRefusals (start .args .book) (start .args .words .now)) ≡ 0
+  none : firstOf (shortPayoutLists (start .args .prices .now) (start .args .lent .now) ++ registerRefusals (start .args .book) (start .args .words .now)) ≡ 0
   none = sym (p .before .lent-refusal .ensures) ∙ p .if1 .left
 
   lent : AllLent (start .args .book) (start .args .words .now) (start .args .prices .now) (start .args .lent .now)
@@ -82,7 +84,7 @@ module _ (p : tie.After-sound) where
   after : p .before .minus .result ≡ balance (accountPaying (s .args .book) (s .args .day) (s .args .failed) (s .args .prices .now) (entries s))
   after = p .before .minus .ensures ∙ ap (λ (n : ℕ). balance (s .args .book .account .0 -ℤ pos n)) (p .before .before .before .amounts-of .ensures .1 .0)
 
-  number : (t : Bool) → p .sound .result ≡ t → cond (not t) 31 0 ≡ firstOf (table s)
+  number : (t : Bool) → p .sound .result ≡ t → cond (not t) 31 0 ≡ refusalOf (rule s) (s .args .book) (s .args .words .now)
   number t is =
       let tested = ap (λ (z : Balance). soundAccount (z .0)) (sym after) ∙ sym (p .sound .ensures) ∙ is in
       sym (ap (λ (t : Bool). cond (not t) 31 0) tested)
@@ -121,7 +123,7 @@ returns-4 c =
     let both = taking (s p) (number p true (not-false _ (c .before .before .before .before .before .before .if3 .left))) in (
       ap answered (c .with-account .ensures ∙ ap (λ (z : Balance). withAccount (s p .args .book) (z .0)) (after p)) ∙ both .0,
       c .before .before .before .write-amounts .ensures
-          ∙ ap (λ (l : List ℕ). l ++ drop bidderLimit (s p .args .lent .now)) (p .before .before .before .amounts-of .ensures .0)
+          ∙ ap (λ (l : List ℕ). withFront l (s p .args .lent .now)) (p .before .before .before .amounts-of .ensures .0)
           ∙ both .1,
     )
 

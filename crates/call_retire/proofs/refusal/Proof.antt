@@ -6,18 +6,21 @@ use borrow.Author.Tests.{le-leb, lt-leb}
 use Rattle.market.proofs.Tables.{first-stands, second-decides}
 use Rattle.market.specs.Limits.{dayLimit}
 use Rattle.register.specs.Refusals.{registerRefusals}
-use Rattle.call_retire.specs.Retire.{retireRefusals}
+use Rattle.call_rules.specs.Steps.{refusalOf}
+use Rattle.call_retire.specs.Retire.{retireRefusals, retire}
 use borrow.Author.Needs.{needs}
 use Rattle.call_retire.proofs.refusal.Statement.{statement}
 use Rattle.call_retire.proofs.refusal.Tie as tie
 
 returns : tie.Need-returns
+unfolding refusalOf retire
 returns c =
     let a = c .before .before .before .args in
     let is = c .before .refusal .ensures in
     is ∙ sym (first-stands (registerRefusals (a .book) (a .words .now)) (retireRefusals (a .day)) (λ z. c .if1 .taken (is ∙ z)))
 
 returns-2 : tie.Need-returns-2
+unfolding refusalOf retire
 returns-2 c =
     let a = c .before .before .before .before .before .args in
     sym
@@ -26,6 +29,7 @@ returns-2 c =
     ∙ ap (λ (t : Bool). cond (not t) 21 0) (lt-leb (a .day .0) dayLimit (c .if2 .taken)))
 
 returns-3 : tie.Need-returns-3
+unfolding refusalOf retire
 returns-3 c =
     let a = c .before .before .before .before .before .args in
     sym

@@ -1,173 +1,167 @@
--- By cases on the verb, thirteen of them: in each the callee's contract is the rule for that verb and the text after
--- it. The laws said-line, words-line and prices-line carry this over to the whole line; a list that the arm does not
--- use is unchanged.
+-- By cases on the first of the words that the line begins with: what is said and the list are then the reader's of that
+-- word (form-read), and the other list is unchanged; past it the forms after it are left (form-left), in the end those of
+-- plain_line. Such a word is no longer than the line (word-fits).
 use borrow.Author.Needs.{needs}
-use mathlib.Core.Path.{_≡_, _∙_}
-use lib.ListN.{length}
-use mathlib.Core.List.{List}
+use mathlib.Core.Path.{_≡_, refl}
+use mathlib.Core.List.{List, _++_}
 use Prim.Native.Nat.{ℕ}
-use Rattle.market.specs.Books.{withFront}
-use Rattle.journal_call_line.specs.CallLine.{saidBy, wordsBy, pricesBy, lineSaid, lineWords, linePrices}
-use Rattle.journal_call_line.specs.declared.verbs.Verb.{Verb}
-use Rattle.journal_call_line.proofs.SaidLaws.{said-line, words-line, prices-line}
-use Rattle.journal_call_line.specs.declared.verbs.Verb.the-variants as verbs
+use lib.ListN.{length, drop}
+use Rattle.journal_call_line.specs.CallLine.{openWord, roundWord, payoutWord, disburseWord, recoverWord, Form, listForms, plainForms, readBy, lineRead}
+use Rattle.journal_call_line.proofs.FormLaws.{form-read, form-left, word-fits, read-as}
 use Rattle.journal_call_line.proofs.line_said.Statement.{statement}
 use Rattle.journal_call_line.proofs.line_said.Tie as tie
 
--- after the first word: what the arm of its verb owes, by the text that comes after it
-module _ (p : tie.After-behind) (v : Verb) (told : p .before .verb-at .result .verb ≡ v) where
-  abbrev start : tie.Start
-  start = p .before .before .before .before
+abbrev line : tie.Start → List ℕ
+line s = s .args .line .now
 
-  abbrev line : List ℕ
-  line = start .args .line .now
+-- all forms but the first `k`
+abbrev forms : ℕ → tie.Start → List Form
+forms k s = drop k (listForms (length (s .args .words .now)) (length (s .args .prices .now)) ++ plainForms)
 
-  abbrev cap : ℕ
-  cap = length (start .args .words .now)
+-- are left to read the line by
+abbrev Left : ℕ → tie.Start → Type 0
+Left k s = readBy (forms k s) (line s) ≡ lineRead (length (s .args .words .now)) (length (s .args .prices .now)) (line s)
 
-  abbrev most : ℕ
-  most = length (start .args .prices .now)
+-- ---- open
 
-  abbrev text : List ℕ
-  text = p .behind .result .now
+abbrev start-1 : tie.After-starts-with → tie.Start
+start-1 c = c .before .before .before .before
 
-  call-said : saidBy cap most v text ≡ lineSaid cap most line
-  call-said = said-line line (p .before .verb-at .result) v text (p .before .verb-at .ensures .0) told (p .behind .ensures) cap most
-
-  words-said : withFront (wordsBy cap v text) (start .args .words .now) ≡ withFront (lineWords cap line) (start .args .words .now)
-  words-said =
-      words-line line (p .before .verb-at .result) v text (p .before .verb-at .ensures .0) told (p .behind .ensures) cap (start .args .words .now)
-
-  prices-said : withFront (pricesBy most v text) (start .args .prices .now) ≡ withFront (linePrices most line) (start .args .prices .now)
-  prices-said =
-      prices-line line (p .before .verb-at .result) v text (p .before .verb-at .ensures .0) told (p .behind .ensures) most (start .args .prices .now)
-
-enum-told : tie.Need-enum-told
-enum-told c = search needs
+left-1 : (c : tie.After-starts-with) → Left 0 (start-1 c)
+unfolding lineRead
+left-1 c = refl
 
 returns : tie.Need-returns
 returns c =
-    let p = c .before .before .before in
-    let told = c .before .enum-told .given .1 in
-    (c .account-line .ensures ∙ call-said p verbs.Deposit told, (words-said p verbs.Deposit told, prices-said p verbs.Deposit told))
+    let read = c .before .before .open-line in
+    let b = c .before .before .before .before in
+    let p = b .before in
+    let s = start-1 (p .before) in
+    read-as (form-read (line s) (forms 0 s) (left-1 (p .before)) (p .before .starts-with .ensures) (p .if1 .taken) (b .behind .ensures))
+    (record { says = read .ensures .0; laid = read .ensures .1; priced = refl })
+
+-- ---- round
+
+abbrev start-2 : tie.After-starts-with2 → tie.Start
+start-2 c = start-1 (c .before .before .before)
+
+left-2 : (c : tie.After-starts-with2) → Left 1 (start-2 c)
+left-2 c =
+    let p = c .before .before in
+    let s = start-2 c in
+    form-left (line s) (forms 0 s) (left-1 (p .before)) (p .before .starts-with .ensures) (p .if1 .left)
 
 returns-2 : tie.Need-returns-2
 returns-2 c =
-    let p = c .before .before .before in
-    let told = c .before .enum-told2 .given .1 in
-    (c .account-line2 .ensures ∙ call-said p verbs.Withdraw told, (words-said p verbs.Withdraw told, prices-said p verbs.Withdraw told))
+    let read = c .before .before .round-line in
+    let b = c .before .before .before .before in
+    let p = b .before in
+    let s = start-2 (p .before) in
+    read-as (form-read (line s) (forms 1 s) (left-2 (p .before)) (p .before .starts-with2 .ensures) (p .if2 .taken) (b .behind2 .ensures))
+    (record { says = read .ensures .0; laid = read .ensures .1; priced = refl })
+
+-- ---- payout
+
+abbrev start-3 : tie.After-starts-with3 → tie.Start
+start-3 c = start-2 (c .before .before .before)
+
+left-3 : (c : tie.After-starts-with3) → Left 2 (start-3 c)
+left-3 c =
+    let p = c .before .before in
+    let s = start-3 c in
+    form-left (line s) (forms 1 s) (left-2 (p .before)) (p .before .starts-with2 .ensures) (p .if2 .left)
 
 returns-3 : tie.Need-returns-3
 returns-3 c =
-    let p = c .before .before .before .before .before .before in
-    let told = c .before .before .before .before .enum-told3 .given .1 in
-    (c .before .before .open-line .ensures .0 ∙ call-said p verbs.Open told, (c .before .before .open-line .ensures .1 ∙ words-said p verbs.Open told, prices-said p verbs.Open told))
+    let read = c .before .payout-line in
+    let b = c .before .before .before in
+    let p = b .before in
+    let s = start-3 (p .before) in
+    read-as (form-read (line s) (forms 2 s) (left-3 (p .before)) (p .before .starts-with3 .ensures) (p .if3 .taken) (b .behind3 .ensures))
+    (record { says = read .ensures .0; laid = refl; priced = read .ensures .1 })
+
+-- ---- disburse
+
+abbrev start-4 : tie.After-starts-with4 → tie.Start
+start-4 c = start-3 (c .before .before .before)
+
+left-4 : (c : tie.After-starts-with4) → Left 3 (start-4 c)
+left-4 c =
+    let p = c .before .before in
+    let s = start-4 c in
+    form-left (line s) (forms 2 s) (left-3 (p .before)) (p .before .starts-with3 .ensures) (p .if3 .left)
 
 returns-4 : tie.Need-returns-4
 returns-4 c =
-    let p = c .before .before .before .before .before .before in
-    let told = c .before .before .before .before .enum-told4 .given .1 in
-    (c .before .before .round-line .ensures .0 ∙ call-said p verbs.Round told, (c .before .before .round-line .ensures .1 ∙ words-said p verbs.Round told, prices-said p verbs.Round told))
+    let read = c .before .before .share-line in
+    let b = c .before .before .before .before in
+    let p = b .before in
+    let s = start-4 (p .before) in
+    read-as (form-read (line s) (forms 3 s) (left-4 (p .before)) (p .before .starts-with4 .ensures) (p .if4 .taken) (b .behind4 .ensures))
+    (record { says = read .ensures .0; laid = read .ensures .1; priced = refl })
+
+-- ---- recover
+
+abbrev start-5 : tie.After-starts-with5 → tie.Start
+start-5 c = start-4 (c .before .before .before)
+
+left-5 : (c : tie.After-starts-with5) → Left 4 (start-5 c)
+left-5 c =
+    let p = c .before .before in
+    let s = start-5 c in
+    form-left (line s) (forms 3 s) (left-4 (p .before)) (p .before .starts-with4 .ensures) (p .if4 .left)
 
 returns-5 : tie.Need-returns-5
 returns-5 c =
-    let p = c .before .before .before in
-    let told = c .before .enum-told5 .given .1 in
-    (c .pay-line .ensures ∙ call-said p verbs.Pay told, (words-said p verbs.Pay told, prices-said p verbs.Pay told))
+    let read = c .before .before .share-line2 in
+    let b = c .before .before .before .before in
+    let p = b .before in
+    let s = start-5 (p .before) in
+    read-as (form-read (line s) (forms 4 s) (left-5 (p .before)) (p .before .starts-with5 .ensures) (p .if5 .taken) (b .behind5 .ensures))
+    (record { says = read .ensures .0; laid = read .ensures .1; priced = refl })
+
+-- ---- none of them
 
 returns-6 : tie.Need-returns-6
 returns-6 c =
-    let p = c .before .before .before in
-    let told = c .before .enum-told6 .given .1 in
-    (c .default-line .ensures ∙ call-said p verbs.Default told, (words-said p verbs.Default told, prices-said p verbs.Default told))
-
-returns-7 : tie.Need-returns-7
-returns-7 c =
-    let p = c .before .before .before in
-    let told = c .before .enum-told7 .given .1 in
-    (c .retire-line .ensures ∙ call-said p verbs.Retire told, (words-said p verbs.Retire told, prices-said p verbs.Retire told))
-
-returns-8 : tie.Need-returns-8
-returns-8 c =
-    let p = c .before .before .before in
-    let told = c .before .enum-told8 .given .1 in
-    (c .rent-line .ensures ∙ call-said p verbs.Rent told, (words-said p verbs.Rent told, prices-said p verbs.Rent told))
-
-returns-9 : tie.Need-returns-9
-returns-9 c =
-    let p = c .before .before .before .before .before in
-    let told = c .before .before .before .enum-told9 .given .1 in
-    (c .before .payout-line .ensures .0 ∙ call-said p verbs.Payout told, (words-said p verbs.Payout told, c .before .payout-line .ensures .1 ∙ prices-said p verbs.Payout told))
-
-returns-10 : tie.Need-returns-10
-returns-10 c =
-    let p = c .before .before .before .before .before .before in
-    let told = c .before .before .before .before .enum-told10 .given .1 in
-    (c .before .before .share-line .ensures .0 ∙ call-said p verbs.Disburse told, (c .before .before .share-line .ensures .1 ∙ words-said p verbs.Disburse told, prices-said p verbs.Disburse told))
-
-returns-11 : tie.Need-returns-11
-returns-11 c =
-    let p = c .before .before .before .before .before .before in
-    let told = c .before .before .before .before .enum-told11 .given .1 in
-    (c .before .before .share-line2 .ensures .0 ∙ call-said p verbs.Recover told, (c .before .before .share-line2 .ensures .1 ∙ words-said p verbs.Recover told, prices-said p verbs.Recover told))
-
-returns-12 : tie.Need-returns-12
-returns-12 c =
-    let p = c .before .before in
-    let told = c .enum-told12 .given .1 in
-    (call-said p verbs.Fresh told, (words-said p verbs.Fresh told, prices-said p verbs.Fresh told))
-
-returns-13 : tie.Need-returns-13
-returns-13 c =
-    let p = c .before .before in
-    let told = c .enum-told13 .given .1 in
-    (call-said p verbs.Unknown told, (words-said p verbs.Unknown told, prices-said p verbs.Unknown told))
+    let p = c .before in
+    let s = start-5 (p .before) in
+    read-as (form-left (line s) (forms 4 s) (left-5 (p .before)) (p .before .starts-with5 .ensures) (p .if5 .left))
+    (c .plain-line .ensures (s .args .words .now) (s .args .prices .now))
 
 pub line-said-spec : {M : Type 1} → statement M
 line-said-spec =
     tie.close
     (tie.spec
-    (λ c κs. search needs)
-    (λ c κs. search needs)
-    enum-told
-    (λ c κs. search needs)
     (λ c. search needs)
     (λ c κs. search needs)
-    (λ c. search needs)
+    (λ c κs. word-fits openWord (line (start-1 (c .before))) (c .before .starts-with .ensures) (c .if1 .taken))
     (λ c κs. search needs)
-    (λ c. search needs)
-    (λ c κs. search needs)
-    (λ c. search needs)
-    (λ c κs. search needs)
-    (λ c. search needs)
-    (λ c κs. search needs)
-    (λ c. search needs)
-    (λ c κs. search needs)
-    (λ c. search needs)
-    (λ c κs. search needs)
-    (λ c. search needs)
-    (λ c κs. search needs)
-    (λ c. search needs)
-    (λ c κs. search needs)
-    (λ c. search needs)
-    (λ c κs. search needs)
-    (λ c. search needs)
     (λ c. search needs)
     returns
+    (λ c. search needs)
+    (λ c κs. search needs)
+    (λ c κs. word-fits roundWord (line (start-2 (c .before))) (c .before .starts-with2 .ensures) (c .if2 .taken))
+    (λ c κs. search needs)
+    (λ c. search needs)
     returns-2
+    (λ c. search needs)
+    (λ c κs. search needs)
+    (λ c κs. word-fits payoutWord (line (start-3 (c .before))) (c .before .starts-with3 .ensures) (c .if3 .taken))
+    (λ c κs. search needs)
     (λ c. search needs)
     returns-3
     (λ c. search needs)
+    (λ c κs. search needs)
+    (λ c κs. word-fits disburseWord (line (start-4 (c .before))) (c .before .starts-with4 .ensures) (c .if4 .taken))
+    (λ c κs. search needs)
+    (λ c. search needs)
     returns-4
+    (λ c. search needs)
+    (λ c κs. search needs)
+    (λ c κs. word-fits recoverWord (line (start-5 (c .before))) (c .before .starts-with5 .ensures) (c .if5 .taken))
+    (λ c κs. search needs)
+    (λ c. search needs)
     returns-5
-    returns-6
-    returns-7
-    returns-8
-    (λ c. search needs)
-    returns-9
-    (λ c. search needs)
-    returns-10
-    (λ c. search needs)
-    returns-11
-    returns-12
-    returns-13)
+    (λ c κs. search needs)
+    returns-6)

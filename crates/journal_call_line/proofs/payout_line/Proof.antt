@@ -1,42 +1,46 @@
--- By cases on the test of the fields: where it holds the line is a call, otherwise it is faulty (called, faulty).
--- payout-same says that the fields read one after another are the rule's; the list is as prices_at ensures.
+-- By cases on the test of the fields: where it holds the line is a call, otherwise it is faulty (called, faulty). The list
+-- is as prices_at ensures.
 use borrow.Author.Needs.{needs}
-use mathlib.Core.Path.{_∙_, ap}
-use lib.ListN.{drop, length}
-use mathlib.Core.Bool.{_&&_}
 use borrow.Author.Tests.{not-true, not-false}
+use mathlib.Core.Path.{_≡_, _∙_, ap}
+use mathlib.Core.Bool.{_&&_}
+use mathlib.Core.List.{List}
+use Prim.Native.Nat.{ℕ}
 use lib.Dec.{eqb}
-use Rattle.journal_call_line.proofs.SaidLaws.{faulty, called, payout-same}
-use Rattle.engine.specs.declared.calls.Call.the-variants as calls
-use Rattle.journal_call_line.specs.CallLine.{ends}
-use Rattle.journal_fields.specs.JournalFields.{pricesSaid}
+use lib.ListN.{length, drop}
 use Rattle.market.specs.Books.{withFront}
 use Rattle.market.specs.Limits.{zones}
+use Rattle.engine.specs.declared.calls.Call.the-variants.{Payout}
+use Rattle.journal_fields.specs.JournalFields.{pricesSaid, pricesUsed}
 use Rattle.journal_call_line.specs.declared.heads.HourLine.{HourLine}
+use Rattle.journal_call_line.specs.CallLine.{saidOf, ends, hourLine, payoutRead}
+use Rattle.journal_call_line.proofs.SaidLaws.{Says, faulty, called}
 use Rattle.journal_call_line.proofs.payout_line.Statement.{statement}
 use Rattle.journal_call_line.proofs.payout_line.Tie as tie
+
+-- the fields that are read one after another, and the list after them, are the rule's
+same :
+    (text : List ℕ) (cap : ℕ) {h : HourLine} {count used : ℕ} → h ≡ hourLine text → count ≡ length (pricesSaid cap (drop (h .used) text)) → used ≡ pricesUsed cap (drop (h .used) text)
+    → Says (h .present && ends text (h .used) used && eqb count zones) (Payout (h .day) (h .failed)) 0 count (saidOf (payoutRead cap text))
+same text cap e p q = record { same = rw (p, q, e) }
 
 returns : tie.Need-returns
 returns c =
     let a = c .before .before .before .before .before .before .before .before .before .before .before .args in
+    let h = c .before .before .before .before .before .before .before .before .before .hour-line in
     let run = c .before .before .before .before .before .before .before .prices-at in
-    let cap = length (a .prices .now) in
-    let h = c .before .before .before .before .before .before .before .before .before .hour-line in (
-      faulty (h .result .present && ends (a .text .now) (h .result .used) (run .result .used) && eqb (run .result .count) zones) (calls.Payout (h .result .day) (h .result .failed)) 0
-          (run .result .count) (not-true (h .result .present && ends (a .text .now) (h .result .used) (run .result .used) && eqb (run .result .count) zones) (c .if1 .taken))
-          ∙ payout-same (a .text .now) cap (run .result .count) (run .result .used) (h .result) (h .ensures .0) (run .ensures .0) (run .ensures .1 .0),
+    let cap = length (a .prices .now) in (
+      faulty (same (a .text .now) cap (h .ensures .0) (run .ensures .0) (run .ensures .1 .0)) (not-true _ (c .if1 .taken)),
       run .ensures .1 .1 .1 ∙ ap (λ (x : HourLine). withFront (pricesSaid cap (drop (x .used) (a .text .now))) (a .prices .now)) (h .ensures .0),
     )
 
 returns-2 : tie.Need-returns-2
 returns-2 c =
     let a = c .before .before .before .before .before .before .before .before .before .before .before .args in
+    let h = c .before .before .before .before .before .before .before .before .before .hour-line in
     let run = c .before .before .before .before .before .before .before .prices-at in
-    let cap = length (a .prices .now) in
-    let h = c .before .before .before .before .before .before .before .before .before .hour-line in (
-      called (h .result .present && ends (a .text .now) (h .result .used) (run .result .used) && eqb (run .result .count) zones) (calls.Payout (h .result .day) (h .result .failed)) 0
-          (run .result .count) (not-false (h .result .present && ends (a .text .now) (h .result .used) (run .result .used) && eqb (run .result .count) zones) (c .if1 .left))
-          ∙ payout-same (a .text .now) cap (run .result .count) (run .result .used) (h .result) (h .ensures .0) (run .ensures .0) (run .ensures .1 .0),
+    let cap = length (a .prices .now) in (
+      called (same (a .text .now) cap (h .ensures .0) (run .ensures .0) (run .ensures .1 .0)) (not-false _ (c .if1 .left)),
       run .ensures .1 .1 .1 ∙ ap (λ (x : HourLine). withFront (pricesSaid cap (drop (x .used) (a .text .now))) (a .prices .now)) (h .ensures .0),
     )
 

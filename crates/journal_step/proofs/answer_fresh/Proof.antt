@@ -11,7 +11,7 @@ use borrow.Author.Tests.{not-true, not-false}
 use Rattle.market.specs.Answers.{answerNumber}
 use Rattle.market.specs.declared.answer.Outcome.{Outcome}
 use Rattle.text_numbers.specs.Put.{putAt}
-use Rattle.journal_reply.specs.Replies.{bidsIn}
+use Rattle.market.specs.Answers.{bidsIn}
 use Rattle.text_writing.proofs.PutLaws.{put-front}
 use Rattle.journal_step.specs.LineStep.{Stepped, freshBy, freshStep, turnedAway}
 use Rattle.journal_step.proofs.LineLaws.{fresh-none, fresh-away, fresh-made, fresh-kept, fresh-taken}

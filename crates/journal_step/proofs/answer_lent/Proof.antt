@@ -1,21 +1,23 @@
 -- A straight line: call_lent leaves what the rule's step leaves, and put_answer writes its text, which is the rule's
 -- (call-text). The hard need is that the list has room for the answers of all bids that the answer tells of
--- (answers-fit).
+-- (few-bids).
 use borrow.Author.Needs.{needs}
 use mathlib.Core.Bool.{true}
 use mathlib.Core.Path.{_∙_, ap}
 use native.Mathlib.Omega.{arith}
 use lib.ListN.{length, replicate}
+use Rattle.market.specs.Answers.{bidsIn}
 use Rattle.market.specs.Limits.{bidderLimit, pathAnswerWords}
-use Rattle.market.specs.declared.answer.Outcome.{Outcome}
 use Rattle.market.specs.declared.book.Book.{Book}
 use Rattle.text_numbers.specs.Put.{putAt}
-use Rattle.engine.specs.Step.{step}
-use Rattle.journal_reply.specs.Replies.{bidsIn}
+use Rattle.call_rules.proofs.StepLaws.{few-bids}
+use Rattle.call_rules.specs.Steps.{Left}
+use Rattle.engine.proofs.Laws.{lawful}
+use Rattle.engine.specs.Lent.{listsOf}
+use Rattle.engine.specs.Rules.{ruleOf}
 use Rattle.text_writing.proofs.PutLaws.{put-front}
 use Rattle.journal_step.specs.declared.Journal.{Journal}
 use Rattle.journal_step.specs.LineStep.{lentWith}
-use Rattle.journal_step.proofs.FewBids.{answers-fit}
 use Rattle.journal_step.proofs.LineLaws.{call-text}
 use Rattle.journal_step.proofs.answer_lent.Statement.{statement}
 use Rattle.journal_step.proofs.answer_lent.Tie as tie
@@ -27,14 +29,14 @@ put-answer-requires c κs =
     let a = s .args in
     let made = c .before .before .before .before .before .before .before .before .before .before .before .before .before .call-lent in
     let lent = lentWith (a .list .now) (a .prices .now) (replicate bidderLimit 0) (a .answers .now) (replicate pathAnswerWords 0) (a .scratch .now) in
-    let fits = answers-fit (a .book) (a .register .now) (a .call) lent in
-    let told = ap (λ (o : Outcome). bidsIn (o .answer)) (made .ensures .0) in (
-      s .pre .0,
+    let fits = few-bids (ruleOf (a .call) lent) (listsOf lent) (lawful (a .call) lent) (a .book) (a .register .now) in
+    let told = ap (λ (l : Left). bidsIn (l .outcome .answer)) (made .ensures) in (
+      s .pre,
       (
         omega (arith, c .before .before .before .before .before .before .before .before .before .before .amounts2 .given),
         (
           omega (arith, c .before .before .before .before .before .before .before .paths2 .given),
-          (omega (arith, told, fits .0), omega (arith, told, fits .1, c .before .before .before .before .before .before .before .before .before .answers .given, ap length (s .pre .1))),
+          (omega (arith, told, fits .0), omega (arith, told, fits .1, c .before .before .before .before .before .before .before .before .before .answers .given)),
         ),
       ),
     )
@@ -50,10 +52,9 @@ returns c =
     let put = c .before .before .before .put-answer in
     let tell = c .before .before .before .before .before .before .before .before .tell-of in
     let lent = lentWith (a .list .now) (a .prices .now) (replicate bidderLimit 0) (a .answers .now) (replicate pathAnswerWords 0) (a .scratch .now) in
-    let left = step (a .book) (a .register .now) (a .call) lent in
-    let same = call-text (a .call) left (tell .result) (made .result) _ _ _ (tell .ensures) (made .ensures .0) (made .ensures .1 .1 .0) (made .ensures .1 .1 .1 .0) (made .ensures .1 .1 .1 .1) in (
-      ap (λ (o : Outcome). begun (o .book)) (made .ensures .0),
-      (put-front (put .ensures) ∙ ap length same, (put .ensures .bytes ∙ ap (putAt (a .out .now) 0) same, made .ensures .1 .0)),
+    let same = call-text (a .call) _ _ (tell .result) (tell .ensures) (made .ensures) in (
+      ap (λ (l : Left). begun (l .outcome .book)) (made .ensures),
+      (put-front (put .ensures) ∙ ap length same, (put .ensures .bytes ∙ ap (putAt (a .out .now) 0) same, ap (λ (l : Left). l .words) (made .ensures))),
     )
 
 pub answer-lent-spec : {M : Type 1} → statement M

@@ -6,7 +6,7 @@ use mathlib.Core.Bool.{Bool, cond}
 use Rattle.market.specs.Limits.{zones}
 use Rattle.market.specs.Books.{withFront}
 use Rattle.journal_call_line.specs.CallLine.{lineWords, linePrices}
-use Rattle.journal_step.specs.LineStep.{wordRoom, Stepped, freshStep}
+use Rattle.journal_step.specs.LineStep.{wordRoom, Stepped, freshStep, freshWord}
 use mathlib.Core.Path.{sym, _∙_, ap}
 use mathlib.Core.List.{List, []}
 use Prim.Native.Nat.{ℕ}
@@ -14,7 +14,6 @@ use lib.ListN.{length}
 use Rattle.text_numbers.specs.Put.{putAt}
 use Rattle.text_fields.proofs.ReadLaws.{starts-fit}
 use Rattle.journal_fresh_line.specs.FreshLines.{freshSaid}
-use Rattle.journal_call_line.specs.Verbs.{freshWord}
 use Rattle.journal_step.proofs.LineLaws.{fresh-journal, fresh-text, fresh-register, line-fresh, line-said}
 use Rattle.journal_step.proofs.answer_line.Statement.{statement}
 use Rattle.journal_step.proofs.answer_line.Tie as tie
@@ -50,9 +49,9 @@ returns c =
           (
             fresh-register (a .journal) (a .register .now) f ∙ ap (λ (x : Stepped). x .register) s,
             (
-              ap (own (lineWords wordRoom (a .line .now)) (a .words .now)) is,
+              ap (own (lineWords wordRoom zones (a .line .now)) (a .words .now)) is,
               ap (own
-                  (linePrices zones (a .line .now)) (a .prices .now)) is,
+                  (linePrices wordRoom zones (a .line .now)) (a .prices .now)) is,
             ),
           ),
         ),
@@ -76,9 +75,9 @@ returns-2 c =
             done .ensures .1 .1 .1 .0
                 ∙ ap (λ (x : Stepped). x .register) s,
             (
-              done .ensures .1 .1 .1 .1 .0 ∙ ap (own (lineWords wordRoom (a .line .now)) (a .words .now)) is,
+              done .ensures .1 .1 .1 .1 .0 ∙ ap (own (lineWords wordRoom zones (a .line .now)) (a .words .now)) is,
               done .ensures .1 .1 .1 .1 .1 ∙ ap (own
-                  (linePrices zones (a .line .now)) (a .prices .now)) is,
+                  (linePrices wordRoom zones (a .line .now)) (a .prices .now)) is,
             ),
           ),
         ),

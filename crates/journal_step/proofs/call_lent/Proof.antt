@@ -1,9 +1,8 @@
--- The four columns are the rule's by column's contract, so the engine is lent what the rule lends (lent-same), and each
--- of the five things that its contract ensures is the rule's.
+-- The four columns are the rule's by column's contract, so the engine is lent what the rule lends (lent-same), and what it
+-- leaves is the rule's.
 use borrow.Author.Needs.{needs}
 use mathlib.Core.Path.{_∙_, ap}
-use Rattle.engine.specs.Lent.{Lent}
-use Rattle.engine.specs.Step.{Left, step}
+use Rattle.engine.specs.Step.{step}
 use Rattle.journal_step.proofs.LineLaws.{lent-same}
 use Rattle.journal_step.proofs.call_lent.Statement.{statement}
 use Rattle.journal_step.proofs.call_lent.Tie as tie
@@ -23,19 +22,7 @@ returns c =
     (c .before .before .before .before .before .before .before .before .before .before .before .before .before .before .before .before .before .before .column2 .ensures)
     (c .before .before .before .before .before .before .before .before .before .before .before .before .before .before .before .before .before .column3 .ensures)
     (c .before .before .before .before .before .before .before .before .before .before .before .before .before .before .before .before .column4 .ensures) in
-    let left : Lent → Left = λ (l : Lent). step (a .book) (a .register .now) (a .call) l in (
-      call .ensures .0 ∙ ap (λ (l : Lent). left l .outcome) same,
-      (
-        call .ensures .1 .0 ∙ ap (λ (l : Lent). left l .words) same,
-        (
-          call .ensures .1 .1 .0 ∙ ap (λ (l : Lent). left l .amounts) same,
-          (
-            call .ensures .1 .1 .1 .0 ∙ ap (λ (l : Lent). left l .answers) same,
-            call .ensures .1 .1 .1 .1 .0 ∙ ap (λ (l : Lent). left l .results) same,
-          ),
-        ),
-      ),
-    )
+    call .ensures .by-rule ∙ ap (step (a .book) (a .register .now) (a .call)) same
 
 pub call-lent-spec : {M : Type 1} → statement M
 call-lent-spec =

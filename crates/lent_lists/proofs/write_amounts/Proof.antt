@@ -38,7 +38,10 @@ returns : tie.Need-returns Inv-loop μ-loop
 returns c =
     let a = c .before .before .args in
     let at = c .before .loop in
-    at .inv .2 ∙ all-written (a .t1) (a .lent .now) (at .bidder) bidderLimit (search needs) (search needs) (search needs)
+    let long : length (a .t1) ≡ bidderLimit = search needs in
+    let most : at .bidder ≤ bidderLimit = search needs in
+    let least : bidderLimit ≤ at .bidder = search needs in
+    at .inv .2 ∙ all-written (a .t1) (a .lent .now) (at .bidder) (omega (arith, long, most, least))
 
 pub write-amounts-spec : {M : Type 1} → statement M
 write-amounts-spec =

@@ -4,7 +4,7 @@
 use mathlib.Core.Path.{sym, _∙_, ap, subst}
 use Rattle.market.specs.Answers.{answerNumber}
 use Rattle.market.specs.declared.answer.Outcome.{Outcome}
-use Rattle.promise_invariants.specs.State.{SoundState}
+use Rattle.call_rules.specs.State.{SoundMemory}
 use Rattle.sheet_calls.specs.Calls.{emptyRegister}
 use Rattle.sheet_calls.proofs.KeepDeposits.{fresh-keeps}
 use lib.ListN.{take}
@@ -28,7 +28,7 @@ deposits-requires c κs =
     let made = c .before .before .fresh in
     let routes = c .before .before .before .routes in
     let taken = ap (λ (o : Outcome). answerNumber (o .answer)) (sym (made .ensures)) ∙ sym (c .before .number .ensures) ∙ c .if1 .left in
-    (start .pre .0, (start .pre .1, subst (λ (o : Outcome). SoundState (o .book) emptyRegister) (sym (made .ensures)) (fresh-keeps (routes .result) (start .args .paths .count) taken)))
+    (start .pre .0, (start .pre .1, subst (λ (o : Outcome). SoundMemory (o .book) emptyRegister) (sym (made .ensures)) (fresh-keeps (routes .result) (start .args .paths .count) taken)))
 
 returns-2 : tie.Need-returns-2
 returns-2 c =

@@ -4,7 +4,8 @@ use Rattle.market.specs.declared.book.Bidder.{Bidder}
 use mathlib.Core.Path.{refl, sym, _∙_, ap}
 use mathlib.Core.List.{[], _∷_}
 use mathlib.Core.Bool.{Bool, not, cond}
-use Rattle.call_funding.proofs.Cleared.{funding-cleared}
+use Rattle.call_funding.proofs.Cleared.{number-cleared}
+use Rattle.market.proofs.SoundLaws.{bidder-within}
 use Rattle.market.proofs.Tables.{first-stands, second-decides}
 use Rattle.market.specs.Answers.{_gives_}
 use Rattle.market.specs.Books.{bidderOf}
@@ -19,18 +20,17 @@ returns c =
     let a = c .before .before .args in
     let is = c .before .common-refusal .ensures in
     is
-    ∙ sym (first-stands (fundingRefusals (a .book) (a .bidder) (a .amount)) ((not (hasRoom (bidderOf (a .book) (a .bidder)) (a .to) (a .amount)) gives 11) ∷ []) (λ z. c .if1 .taken (is ∙ z)))
+    ∙ sym (first-stands (fundingRefusals (a .bidder) (a .amount)) ((not (hasRoom (bidderOf (a .book) (a .bidder)) (a .to) (a .amount)) gives 11) ∷ []) (λ z. c .if1 .taken (is ∙ z)))
 
 bidder-requires : tie.Need-bidder-requires
 bidder-requires c κs =
     let a = c .before .before .args in
-    funding-cleared (a .book) (a .bidder) (a .amount) (sym (c .before .common-refusal .ensures) ∙ c .if1 .left) .number
+    number-cleared (a .bidder) (a .amount) (sym (c .before .common-refusal .ensures) ∙ c .if1 .left)
 
 has-room-requires : tie.Need-has-room-requires
 has-room-requires c κs =
     let a = c .before .before .before .args in
-    rw (c .bidder .ensures)
-    (funding-cleared (a .book) (a .bidder) (a .amount) (sym (c .before .before .common-refusal .ensures) ∙ c .before .if1 .left) .bounds)
+    rw (c .bidder .ensures) (bidder-within (a .book) (a .bidder) (c .before .before .before .pre))
 
 returns-2 : tie.Need-returns-2
 returns-2 c =
@@ -42,7 +42,7 @@ returns-2 c =
     ∙ c .if2 .taken
     in
     sym
-    (second-decides (fundingRefusals (a .book) (a .bidder) (a .amount)) ((not (hasRoom (bidderOf (a .book) (a .bidder)) (a .to) (a .amount)) gives 11) ∷ []) refl none
+    (second-decides (fundingRefusals (a .bidder) (a .amount)) ((not (hasRoom (bidderOf (a .book) (a .bidder)) (a .to) (a .amount)) gives 11) ∷ []) refl none
     ∙ ap (λ (t : Bool). cond (not t) 11 0) room)
 
 returns-3 : tie.Need-returns-3
@@ -55,7 +55,7 @@ returns-3 c =
     ∙ c .if2 .left
     in
     sym
-    (second-decides (fundingRefusals (a .book) (a .bidder) (a .amount)) ((not (hasRoom (bidderOf (a .book) (a .bidder)) (a .to) (a .amount)) gives 11) ∷ []) refl none
+    (second-decides (fundingRefusals (a .bidder) (a .amount)) ((not (hasRoom (bidderOf (a .book) (a .bidder)) (a .to) (a .amount)) gives 11) ∷ []) refl none
     ∙ ap (λ (t : Bool). cond (not t) 11 0) room)
 
 pub deposit-refusal-spec : {M : Type 1} → statement M

@@ -6,7 +6,8 @@ use borrow.Author.Tests.{le-leb, lt-leb}
 use mathlib.Core.Path.{refl, sym, _∙_, ap}
 use mathlib.Core.List.{[], _∷_}
 use mathlib.Core.Bool.{Bool, not, cond}
-use Rattle.call_funding.proofs.Cleared.{funding-cleared}
+use Rattle.call_funding.proofs.Cleared.{number-cleared}
+use Rattle.market.proofs.SoundLaws.{bidder-within}
 use Rattle.market.proofs.Tables.{first-stands, second-decides}
 use Rattle.market.specs.Answers.{_gives_}
 use Rattle.market.specs.Books.{bidderOf}
@@ -24,19 +25,18 @@ returns c =
     let is = c .before .common-refusal .ensures in
     is
     ∙ sym
-    (first-stands (fundingRefusals (a .book) (a .bidder) (a .amount)) ((not (leb (a .amount .0) (withdrawable (bidderOf (a .book) (a .bidder)) (a .from))) gives 12) ∷ [])
+    (first-stands (fundingRefusals (a .bidder) (a .amount)) ((not (leb (a .amount .0) (withdrawable (bidderOf (a .book) (a .bidder)) (a .from))) gives 12) ∷ [])
     (λ z. c .if1 .taken (is ∙ z)))
 
 bidder-requires : tie.Need-bidder-requires
 bidder-requires c κs =
     let a = c .before .before .args in
-    funding-cleared (a .book) (a .bidder) (a .amount) (sym (c .before .common-refusal .ensures) ∙ c .if1 .left) .number
+    number-cleared (a .bidder) (a .amount) (sym (c .before .common-refusal .ensures) ∙ c .if1 .left)
 
 withdrawable-of-requires : tie.Need-withdrawable-of-requires
 withdrawable-of-requires c κs =
     let a = c .before .before .before .args in
-    rw (c .bidder .ensures)
-    (funding-cleared (a .book) (a .bidder) (a .amount) (sym (c .before .before .common-refusal .ensures) ∙ c .before .if1 .left) .bounds)
+    rw (c .bidder .ensures) (bidder-within (a .book) (a .bidder) (c .before .before .before .pre))
 
 returns-2 : tie.Need-returns-2
 returns-2 c =
@@ -47,7 +47,7 @@ returns-2 c =
     ∙ sym (c .before .before .before .withdrawable-of .ensures)
     in
     sym
-    (second-decides (fundingRefusals (a .book) (a .bidder) (a .amount)) ((not (leb (a .amount .0) (withdrawable (bidderOf (a .book) (a .bidder)) (a .from))) gives 12) ∷ []) refl none
+    (second-decides (fundingRefusals (a .bidder) (a .amount)) ((not (leb (a .amount .0) (withdrawable (bidderOf (a .book) (a .bidder)) (a .from))) gives 12) ∷ []) refl none
     ∙ ap (λ (n : ℕ). cond (not (leb (a .amount .0) n)) 12 0) most
     ∙ ap (λ (t : Bool). cond (not t) 12 0) (le-leb _ _ (c .if2 .taken)))
 
@@ -60,7 +60,7 @@ returns-3 c =
     ∙ sym (c .before .before .before .withdrawable-of .ensures)
     in
     sym
-    (second-decides (fundingRefusals (a .book) (a .bidder) (a .amount)) ((not (leb (a .amount .0) (withdrawable (bidderOf (a .book) (a .bidder)) (a .from))) gives 12) ∷ []) refl none
+    (second-decides (fundingRefusals (a .bidder) (a .amount)) ((not (leb (a .amount .0) (withdrawable (bidderOf (a .book) (a .bidder)) (a .from))) gives 12) ∷ []) refl none
     ∙ ap (λ (n : ℕ). cond (not (leb (a .amount .0) n)) 12 0) most
     ∙ ap (λ (t : Bool). cond (not t) 12 0) (lt-leb _ _ (c .if2 .left)))
 

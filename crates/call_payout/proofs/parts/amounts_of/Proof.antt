@@ -7,14 +7,14 @@ use mathlib.Core.List.{List}
 use Prim.Native.Nat.{ℕ, _+_, _*_, _-_, _≤_, _<_}
 use native.Mathlib.Omega.{arith}
 use lib.ListN.{length, replicate}
-use Rattle.market.proofs.SoundLaws.{sound-parts, count-within}
+use Rattle.market.proofs.SoundLaws.{zone-within, sound-parts, count-within}
 use Rattle.market.specs.Books.{credit}
 use Rattle.market.specs.Limits.{bidderLimit, pathLimit, quantityLimit, zonePriceLimit, accountLimit}
 use Rattle.market.specs.declared.book.Entry.{Entry}
 use Rattle.register.proofs.EntryLaws.{EntryBounds}
 use Rattle.register.specs.Words.{entryAt, entriesOf}
 use Rattle.pool_sharing.specs.Sharing.{total}
-use Rattle.call_payout.proofs.EarningLaws.{zone-within, credited-more, credit-total, credit-length}
+use Rattle.call_payout.proofs.EarningLaws.{credited-more, credit-total, credit-length}
 use Rattle.call_payout.proofs.RateLaws.{earnedBy, bounds, rate-low, credits-same, sum-fits, amount-fits}
 use Rattle.call_payout.specs.Payout.{credited, amountsOf}
 use Rattle.call_payout.proofs.parts.amounts_of.Statement.{statement}

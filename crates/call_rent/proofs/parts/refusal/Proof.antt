@@ -6,17 +6,22 @@ use native.Mathlib.Omega.{arith}
 use Rattle.market.proofs.SoundLaws.{sound-parts}
 use Rattle.market.specs.Sound.{soundAccount}
 use Rattle.market.specs.declared.units.Balance.{Balance}
+use Rattle.call_rules.specs.Steps.{refusalOf}
+use Rattle.call_rent.specs.Rent.{rent}
 use borrow.Author.Needs.{needs}
 use Rattle.call_rent.proofs.parts.refusal.Statement.{statement}
 use Rattle.call_rent.proofs.parts.refusal.Tie as tie
 
 returns : tie.Need-returns
+unfolding refusalOf rent
 returns c = rw (sym (c .before .sound-book .ensures) ∙ not-true _ (c .if1 .taken))
 
 returns-2 : tie.Need-returns-2
+unfolding refusalOf rent
 returns-2 c = rw (sym (c .before .before .before .sound-book .ensures) ∙ not-false _ (c .before .before .if1 .left), eq-eqb _ _ (c .if2 .taken))
 
 returns-3 : tie.Need-returns-3
+unfolding refusalOf rent
 returns-3 c =
     rw (
       sym (c .before .before .before .before .before .sound-book .ensures)
@@ -33,6 +38,7 @@ plus-requires c κs = (
 )
 
 returns-4 : tie.Need-returns-4
+unfolding refusalOf rent
 returns-4 c =
     rw (
       sym (c .before .before .before .before .before .before .before .before .before .sound-book .ensures) ∙ not-false _ (c .before .before .before .before .before .before .before .before .if1 .left),
@@ -42,6 +48,7 @@ returns-4 c =
     )
 
 returns-5 : tie.Need-returns-5
+unfolding refusalOf rent
 returns-5 c =
     rw (
       sym (c .before .before .before .before .before .before .before .before .before .sound-book .ensures) ∙ not-false _ (c .before .before .before .before .before .before .before .before .if1 .left),

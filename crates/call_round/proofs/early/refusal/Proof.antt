@@ -7,7 +7,7 @@ use Rattle.market.proofs.Tables.{first-stands, second-decides}
 use Rattle.market.specs.Answers.{Row}
 use Rattle.round_bids.specs.BidRefusals.{listRefusals}
 use Rattle.register.specs.Refusals.{registerRefusals}
-use Rattle.call_round.specs.Round.{roundListRefusals, deskRefusals}
+use Rattle.call_round.specs.Round.{shortRoundLists, deskRefusals}
 use Rattle.call_round.proofs.Cleared.{lent-cleared}
 use borrow.Author.Needs.{needs}
 use Rattle.call_round.proofs.early.refusal.Statement.{statement}
@@ -16,7 +16,7 @@ use Rattle.call_round.proofs.early.refusal.Tie as tie
 -- the two parts
 module _ (s : tie.Start) where
   abbrev first : List Row
-  first = roundListRefusals (s .args .answers .now) (s .args .results .now) (s .args .scratch .now) ++ registerRefusals (s .args .book) (s .args .words .now)
+  first = shortRoundLists (s .args .answers .now) (s .args .results .now) (s .args .scratch .now) ++ registerRefusals (s .args .book) (s .args .words .now)
 
   abbrev second : List Row
   second = deskRefusals (s .args .book) (s .args .bids .now) ++ listRefusals (s .args .book .«path_count») (s .args .bids .now)

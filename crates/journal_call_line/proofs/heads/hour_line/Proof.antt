@@ -1,15 +1,23 @@
--- No case: two fields are read, the second from where the first ends, and hour-same says that these are the rule's. The
--- day fits 32 bits because it was read with that limit (number-within).
+-- No case: two fields are read, the second from where the first ends. The day fits 32 bits because it was read with that
+-- limit (number-within).
 use borrow.Author.Needs.{needs}
 use native.Mathlib.Omega.{arith}
-use mathlib.Core.Path.{sym, subst}
-use Prim.Native.Nat.{_≤_}
+use mathlib.Core.Path.{_≡_, sym, subst}
+use mathlib.Core.List.{List}
+use Prim.Native.Nat.{ℕ, _≤_}
+use lib.ListN.{drop}
 use Rattle.text_fields.specs.declared.Field.{Field}
 use Rattle.text_fields.specs.Fields.{wordTop}
 use Rattle.journal_fields.proofs.FieldLaws.{number-within}
-use Rattle.journal_call_line.proofs.SaidLaws.{hour-same}
+use Rattle.journal_fields.specs.JournalFields.{number, choice}
+use Rattle.journal_call_line.specs.CallLine.{failedOption, pricedOption, hourOf, hourLine}
 use Rattle.journal_call_line.proofs.heads.hour_line.Statement.{statement}
 use Rattle.journal_call_line.proofs.heads.hour_line.Tie as tie
+
+-- the fields that are read one after another are the rule's
+same : (text : List ℕ) (d h : Field) → d ≡ number wordTop text → h ≡ choice failedOption pricedOption (drop (d .used) text) → hourOf d h ≡ hourLine text
+unfolding hourLine
+same text d h p q = rw (q, p)
 
 cast-t13 : tie.Need-cast-t13
 cast-t13 c =
@@ -22,7 +30,7 @@ returns c =
     let a = c .before .before .before .before .before .before .before .before .before .before .before .args in
     let d = c .before .before .before .before .before .before .before .before .before .number-at in
     let h = c .before .before .before .before .before .before .choice-at in
-    (hour-same (a .text .now) (d .result) (h .result) (d .ensures .0) (h .ensures .0), omega (arith, d .ensures .1, h .ensures .1))
+    (same (a .text .now) (d .result) (h .result) (d .ensures .0) (h .ensures .0), omega (arith, d .ensures .1, h .ensures .1))
 
 pub hour-line-spec : {M : Type 1} → statement M
 hour-line-spec =

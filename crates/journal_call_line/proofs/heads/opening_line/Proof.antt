@@ -1,21 +1,28 @@
--- No case: three fields are read, each from where the one before it ends, and opening-same says that these are the
--- rule's. Both days fit 32 bits because they were read with that limit (number-within).
+-- No case: three fields are read, each from where the one before it ends. Both days fit 32 bits because they were read
+-- with that limit (number-within).
 use borrow.Author.Needs.{needs}
 use native.Mathlib.Omega.{arith}
-use mathlib.Core.Path.{sym, _∙_, ap, subst}
-use Prim.Native.Nat.{_+_, _≤_}
+use mathlib.Core.Path.{_≡_, sym, _∙_, ap, subst}
+use mathlib.Core.List.{List}
+use Prim.Native.Nat.{ℕ, _+_, _≤_}
 use lib.ListN.{drop}
 use Rattle.text_fields.specs.declared.Field.{Field}
 use Rattle.text_fields.specs.Fields.{wordTop}
 use Rattle.journal_fields.proofs.FieldLaws.{number-within}
-use Rattle.journal_call_line.proofs.SaidLaws.{opening-same}
 use Rattle.market.specs.declared.book.Kind.{Kind}
 use Rattle.journal_call_line.specs.declared.heads.Opening.{Opening}
 use mathlib.Core.Bool.{_&&_}
-use Rattle.journal_fields.specs.JournalFields.{present}
-use Rattle.journal_call_line.specs.CallLine.{periodFrom}
+use Rattle.journal_fields.specs.JournalFields.{present, number, choice}
+use Rattle.journal_call_line.specs.CallLine.{shortOption, longOption, periodFrom, openingOf, opening}
 use Rattle.journal_call_line.proofs.heads.opening_line.Statement.{statement}
 use Rattle.journal_call_line.proofs.heads.opening_line.Tie as tie
+
+-- the fields that are read one after another are the rule's
+opening-same :
+    (text : List ℕ) (k f l : Field) → k ≡ choice shortOption longOption text → f ≡ number wordTop (drop (k .used) text)
+    → l ≡ number wordTop (drop (k .used + f .used) text) → openingOf k f l ≡ opening text
+unfolding opening
+opening-same text k f l p q r = rw (r, q, p)
 
 cast-t19 : tie.Need-cast-t19
 cast-t19 c =

@@ -1,22 +1,31 @@
 -- By cases on whether the three fields are present: then the line is the call that account_call gives, otherwise it is
--- faulty (called, faulty). account-same says that the fields read one after another are the rule's.
+-- faulty (called, faulty).
 use borrow.Author.Needs.{needs}
-use native.Mathlib.Omega.{arith}
-use mathlib.Core.Path.{sym, _∙_, ap, subst}
-use Prim.Native.Nat.{_≤_}
-use Rattle.text_fields.specs.declared.Field.{Field}
-use Rattle.text_fields.specs.Fields.{wordTop}
-use Rattle.journal_fields.proofs.FieldLaws.{number-within}
 use borrow.Author.Tests.{not-true, not-false}
-use mathlib.Core.Bool.{_&&_}
+use native.Mathlib.Omega.{arith}
+use mathlib.Core.Path.{_≡_, sym, _∙_, ap, subst}
+use mathlib.Core.Bool.{Bool, _&&_}
+use mathlib.Core.List.{List}
+use Prim.Native.Nat.{ℕ, _+_, _≤_}
+use lib.ListN.{drop}
 use Rattle.call_funding.specs.declared.Funds.{Funds}
 use Rattle.engine.specs.declared.calls.Call.{Call}
-use Rattle.journal_fields.specs.JournalFields.{present}
-use Rattle.journal_call_line.specs.CallLine.{fundsOf, accountCall}
-use Rattle.journal_call_line.proofs.SaidLaws.{faulty, called, account-same}
+use Rattle.text_fields.specs.Fields.{wordTop}
+use Rattle.text_fields.specs.declared.Field.{Field}
+use Rattle.journal_fields.proofs.FieldLaws.{number-within}
+use Rattle.journal_fields.specs.JournalFields.{wideTop, present, number, lastNumber, choice}
 use Rattle.journal_call_line.specs.declared.Said.the-variants.{Called}
+use Rattle.journal_call_line.specs.CallLine.{saidOf, cashOption, letterOption, fundsOf, accountCall, accountRead}
+use Rattle.journal_call_line.proofs.SaidLaws.{Says, faulty, called}
 use Rattle.journal_call_line.proofs.plain.account_line.Statement.{statement}
 use Rattle.journal_call_line.proofs.plain.account_line.Tie as tie
+
+-- the fields that are read one after another are the rule's
+same :
+    (text : List ℕ) (deposit : Bool) {b f a : Field} → b ≡ number wordTop text → f ≡ choice cashOption letterOption (drop (b .used) text)
+    → a ≡ lastNumber wideTop (drop (b .used + f .used) text)
+    → Says (present b && present f && present a) (accountCall deposit (b .value) (fundsOf (f .value)) (a .value)) 0 0 (saidOf (accountRead deposit text))
+same text deposit p q r = record { same = rw (r, q, p) }
 
 returns : tie.Need-returns
 returns c =
@@ -24,9 +33,7 @@ returns c =
     let b = c .before .before .before .before .before .before .before .before .before .before .number-at in
     let f = c .before .before .before .before .before .before .before .choice-at in
     let m = c .before .before .before .before .last-number in
-    faulty (present (b .result) && present (f .result) && present (m .result)) (accountCall (a .deposit) (b .result .value) (fundsOf (f .result .value)) (m .result .value)) 0 0
-    (not-true (present (b .result) && present (f .result) && present (m .result)) (c .if1 .taken))
-    ∙ account-same (a .text .now) (a .deposit) (b .result) (f .result) (m .result) (b .ensures .0) (f .ensures .0) (m .ensures .0)
+    faulty (same (a .text .now) (a .deposit) (b .ensures .0) (f .ensures .0) (m .ensures .0)) (not-true _ (c .if1 .taken))
 
 cast-account-call : tie.Need-cast-account-call
 cast-account-call c =
@@ -42,9 +49,7 @@ returns-2 c =
     let m = c .before .before .before .before .before .before .before .last-number in
     let is = c .account-call .ensures ∙ ap (λ (x : Funds). accountCall (a .deposit) (b .result .value) x (m .result .value)) (c .before .funds-of .ensures) in
     ap (λ (x : Call). Called x 0 0) is
-    ∙ called (present (b .result) && present (f .result) && present (m .result)) (accountCall (a .deposit) (b .result .value) (fundsOf (f .result .value)) (m .result .value)) 0 0
-    (not-false (present (b .result) && present (f .result) && present (m .result)) (c .before .before .before .if1 .left))
-    ∙ account-same (a .text .now) (a .deposit) (b .result) (f .result) (m .result) (b .ensures .0) (f .ensures .0) (m .ensures .0)
+    ∙ called (same (a .text .now) (a .deposit) (b .ensures .0) (f .ensures .0) (m .ensures .0)) (not-false _ (c .before .before .before .if1 .left))
 
 pub account-line-spec : {M : Type 1} → statement M
 account-line-spec =

@@ -2,24 +2,27 @@
 -- faulty). The day fits 32 bits because it was read with that limit (last-within).
 use borrow.Author.Needs.{needs}
 use native.Mathlib.Omega.{arith}
-use mathlib.Core.Path.{sym, _∙_, ap, subst}
-use Prim.Native.Nat.{_≤_}
-use Rattle.text_fields.specs.declared.Field.{Field}
-use Rattle.journal_fields.specs.JournalFields.{present}
-use Rattle.journal_call_line.specs.CallLine.{retireOf, retireSaid}
-use Rattle.journal_call_line.proofs.SaidLaws.{faulty, called, missing, standing}
-use Rattle.text_fields.specs.Fields.{wordTop}
-use Rattle.journal_fields.proofs.FieldLaws.{last-within}
-use Rattle.engine.specs.declared.calls.Call.the-variants as calls
+use mathlib.Core.Path.{_≡_, sym, subst}
+use mathlib.Core.List.{List}
+use Prim.Native.Nat.{ℕ, _≤_}
 use Rattle.market.specs.Books.{dayNumber}
+use Rattle.engine.specs.declared.calls.Call.the-variants.{Retire}
+use Rattle.text_fields.specs.Fields.{wordTop}
+use Rattle.text_fields.specs.declared.Field.{Field}
+use Rattle.journal_fields.proofs.FieldLaws.{last-within}
+use Rattle.journal_fields.specs.JournalFields.{present, lastNumber}
+use Rattle.journal_call_line.specs.CallLine.{saidOf, retireRead}
+use Rattle.journal_call_line.proofs.SaidLaws.{Says, faulty, called, missing, standing}
 use Rattle.journal_call_line.proofs.plain.retire_line.Statement.{statement}
 use Rattle.journal_call_line.proofs.plain.retire_line.Tie as tie
 
+same : (text : List ℕ) {b : Field} → b ≡ lastNumber wordTop text → Says (present b) (Retire (dayNumber (b .value))) 0 0 (saidOf (retireRead text))
+same text p = record { same = rw p }
+
 returns : tie.Need-returns
-unfolding retireSaid
 returns c =
     let b = c .before .before .last-number in
-    faulty (present (b .result)) (calls.Retire (dayNumber (b .result .value))) 0 0 (missing (b .result) (c .if1 .taken)) ∙ ap retireOf (b .ensures .0)
+    faulty (same (c .before .before .before .before .args .text .now) (b .ensures .0)) (missing (b .result) (c .if1 .taken))
 
 cast-t5 : tie.Need-cast-t5
 cast-t5 c =
@@ -28,10 +31,9 @@ cast-t5 c =
     omega (arith, subst (λ (f : Field). f .value ≤ wordTop) (sym (b .ensures .0)) (last-within wordTop (a .text .now)))
 
 returns-2 : tie.Need-returns-2
-unfolding retireSaid
 returns-2 c =
     let b = c .before .before .before .last-number in
-    called (present (b .result)) (calls.Retire (dayNumber (b .result .value))) 0 0 (standing (b .result) (c .before .if1 .left)) ∙ ap retireOf (b .ensures .0)
+    called (same (c .before .before .before .before .before .args .text .now) (b .ensures .0)) (standing (b .result) (c .before .if1 .left))
 
 pub retire-line-spec : {M : Type 1} → statement M
 retire-line-spec = tie.close (tie.spec (λ c κs. search needs) returns cast-t5 returns-2)

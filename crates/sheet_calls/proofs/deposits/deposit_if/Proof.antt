@@ -9,7 +9,7 @@ returns c =
     none-deposited (a .amount) (a .book) (a .bidder) (a .to) (c .if1 .taken)
 
 deposit-sound-requires : tie.Need-deposit-sound-requires
-deposit-sound-requires c κs = c .before .pre .sound
+deposit-sound-requires c κs = c .before .pre .state .sound
 
 returns-2 : tie.Need-returns-2
 returns-2 c =

@@ -4,7 +4,7 @@
 use mathlib.Core.Path.{_≡_, sym, subst}
 use lib.ListN.{length, getD}
 use Rattle.market.specs.declared.answer.Outcome.{Outcome}
-use Rattle.promise_invariants.specs.State.{SoundState}
+use Rattle.call_rules.specs.State.{SoundMemory}
 use Rattle.sheet_calls.specs.Calls.{emptyRegister}
 use Rattle.sheet_calls.proofs.KeepDeposits.{line-keeps}
 use Rattle.market.specs.Limits.{bidderLimit}
@@ -18,7 +18,7 @@ use Rattle.sheet_calls.proofs.deposits.deposits.Statement.{statement}
 use Rattle.sheet_calls.proofs.deposits.deposits.Tie as tie
 
 abbrev Inv-loop : tie.InvT-loop
-Inv-loop lines now₀ i₀ i-end now i = DepositsTo now₀ lines i-end now i × SoundState now emptyRegister
+Inv-loop lines now₀ i₀ i-end now i = DepositsTo now₀ lines i-end now i × SoundMemory now emptyRegister
 
 abbrev μ-loop : tie.MeasureT-loop
 μ-loop lines now₀ i₀ i-end now i = i-end - i
@@ -50,7 +50,7 @@ loop-again c =
     let line = c .before .before .before .line-deposits in (
       line-made (a .book) (a .rows .lines) (a .rows .count) (at .now) (at .i) (at .inv .0) noBidderLine (line .result) (line .ensures)
           (c .before .before .number .result) (c .before .before .number .ensures) (c .before .before .before .before .before .loop-test .taken) (c .before .if1 .left),
-      subst (λ (o : Outcome). SoundState (o .book) emptyRegister) (sym (line .ensures)) (line-keeps (at .now) emptyRegister (getD (a .rows .lines) (at .i) noBidderLine) (at .inv .1)),
+      subst (λ (o : Outcome). SoundMemory (o .book) emptyRegister) (sym (line .ensures)) (line-keeps (at .now) emptyRegister (getD (a .rows .lines) (at .i) noBidderLine) (at .inv .1)),
     )
 
 returns-2 : tie.Need-returns-2 Inv-loop μ-loop

@@ -3,7 +3,7 @@
 use mathlib.Core.Path.{sym, _∙_, subst}
 use Rattle.market.specs.declared.answer.Outcome.{Outcome}
 use Rattle.call_funding.specs.declared.Funds.the-variants.{Cash}
-use Rattle.promise_invariants.specs.State.{SoundState}
+use Rattle.call_rules.specs.State.{SoundMemory}
 use Rattle.sheet_calls.specs.Calls.{emptyRegister}
 use Rattle.sheet_calls.proofs.KeepDeposits.{deposit-if-keeps}
 use Rattle.sheet_calls.proofs.DepositLaws.{cash-refused, cash-made}
@@ -25,7 +25,7 @@ deposit-if-requires-2 c κs =
     let start = c .before .before .before .before in
     let a = start .args in
     let cash = c .before .before .deposit-if in
-    subst (λ (o : Outcome). SoundState (o .book) emptyRegister) (sym (cash .ensures)) (deposit-if-keeps (a .line .cash) (a .book) emptyRegister (a .line .bidder) Cash (start .pre .1))
+    subst (λ (o : Outcome). SoundMemory (o .book) emptyRegister) (sym (cash .ensures)) (deposit-if-keeps (a .line .cash) (a .book) emptyRegister (a .line .bidder) Cash (start .pre .1))
 
 returns-2 : tie.Need-returns-2
 returns-2 c =

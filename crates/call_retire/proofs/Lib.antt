@@ -1,0 +1,2 @@
+-- Retire's rule is lawful.
+pub mod RetireLaws
