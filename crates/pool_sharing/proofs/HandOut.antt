@@ -1,5 +1,5 @@
 -- Laws about the cents that are handed out by largest remainder.
-use mathlib.Core.Path.{_≡_, refl, sym, _∙_}
+use mathlib.Core.Path.{_≡_, refl, sym, _∙_, subst}
 use mathlib.Core.Bool.{Bool, true, false}
 use mathlib.Core.List.{List, [], _∷_}
 use Prim.Native.Nat.{ℕ, zero, suc, min, _+_, _*_, _≤_, _<_}
@@ -8,7 +8,7 @@ use lib.Dec.{eqb}
 use lib.ListN.{length, getD, length-set}
 use lib.Seq.{getD-set-same, getD-set-other}
 use borrow.Author.Tests.{eqb-true, eqb-false}
-use Rattle.pool_sharing.proofs.Largest.{all-zero, largest-at, largest-within}
+use Rattle.pool_sharing.proofs.Largest.{at-most, all-zero, largest-at, largest-within, largest-first}
 use Rattle.pool_sharing.proofs.Totals.{total-set}
 use Rattle.pool_sharing.specs.Sharing.{total, biggest, largest, oneMore, spent, handOut}
 
@@ -107,3 +107,64 @@ hand-out-gets whole (suc cents) rems shares e i =
     gets-more rems shares (largest rems) (place-within whole cents rems shares e) (e .alike)
     (omega (arith, largest-left whole cents rems shares e, largest-at rems)) i (getD (handOut cents (spent rems (largest rems)) (oneMore shares (largest rems))) i 0)
     (hand-out-gets whole cents (spent rems (largest rems)) (oneMore shares (largest rems)) (enough-next whole cents rems shares e) i)
+
+-- ---- Who gets a cent
+
+-- a participant comes before another: its remainder is larger, or it is equal and its number lower
+pub record Before (rems : List ℕ) (i j : ℕ) : Type 0 where
+  pub larger : getD rems j 0 ≤ getD rems i 0
+  pub lower : getD rems j 0 ≡ getD rems i 0 → i < j
+
+-- the first largest comes before every other
+largest-before : (rems : List ℕ) (j : ℕ) → (j ≡ largest rems → ⊥) → Before rems (largest rems) j
+largest-before rems j other =
+    record {
+      larger = omega (arith, at-most rems j, largest-at rems);
+      lower = λ same.
+          after j (largest rems) other
+          (λ less. let no : ⊥ = omega (arith, largest-first rems j less, largest-at rems, same) in no);
+    }
+  where
+    after : (n m : ℕ) → (n ≡ m → ⊥) → (n < m → ⊥) → m < n
+    after n m p q = omega arith
+
+-- one cent, where those after it are given in order
+module _ (whole cents : ℕ) (rems shares : List ℕ) (e : Enough whole (suc cents) rems shares) (i j : ℕ) where
+  abbrev place : ℕ
+  place = largest rems
+
+  abbrev rest : List ℕ
+  rest = handOut cents (spent rems place) (oneMore shares place)
+
+  module _ (more : getD shares i 0 < getD rest i 0) (none : getD rest j 0 ≡ getD shares j 0)
+      (later : getD (oneMore shares place) i 0 < getD rest i 0 → getD rest j 0 ≡ getD (oneMore shares place) j 0 → Before (spent rems place) i j) where
+    -- the place gets a cent now, and keeps it
+    served : j ≡ place → ⊥
+    served same =
+        let inside : place < length shares = omega (arith, place-within whole cents rems shares e, e .alike) in
+        let got = hand-out-gets whole cents (spent rems place) (oneMore shares place) (enough-next whole cents rems shares e) j .0 in
+        let no : ⊥ = omega (arith, got, one-more-same shares place j same inside, none) in no
+
+    one-turn : Before rems i j
+    one-turn = go (eqb i place) refl
+      where
+        go : (t : Bool) → eqb i place ≡ t → Before rems i j
+        go true p = subst (λ (k : ℕ). Before rems k j) (sym (eqb-true i place p)) (largest-before rems j served)
+        go false p =
+            let other = eqb-false i place p in
+            let after = later (omega (arith, one-more-other shares place i other, more)) (none ∙ sym (one-more-other shares place j served)) in
+            let mine = getD-set-other rems place i 0 0 other in
+            let its = getD-set-other rems place j 0 0 served in
+            record {
+              larger = omega (arith, after .larger, mine, its);
+              lower = λ same. after .lower (its ∙ same ∙ sym mine);
+            }
+
+-- whoever gets a cent comes before each that gets none
+pub hand-out-order :
+    (whole cents : ℕ) (rems shares : List ℕ) → Enough whole cents rems shares → (i j : ℕ) → getD shares i 0 < getD (handOut cents rems shares) i 0
+    → getD (handOut cents rems shares) j 0 ≡ getD shares j 0 → Before rems i j
+hand-out-order whole zero rems shares e i j more none = absurd (let no : ⊥ = omega (arith, more) in no)
+hand-out-order whole (suc cents) rems shares e i j more none =
+    one-turn whole cents rems shares e i j more none
+    (hand-out-order whole cents (spent rems (largest rems)) (oneMore shares (largest rems)) (enough-next whole cents rems shares e) i j)

@@ -7,7 +7,7 @@ use native.Mathlib.Nat.{div-add-mod', mod-lt, le-of-mul-le-mul-right, zero-mul, 
 use native.Mathlib.Omega.{arith}
 use lib.ListN.{length, getD, replicate, length-map, List·getD-map}
 use Rattle.pool_sharing.proofs.Eligible.{eligible-at}
-use Rattle.pool_sharing.proofs.HandOut.{Enough, Gets, hand-out-length, hand-out-total, hand-out-gets}
+use Rattle.pool_sharing.proofs.HandOut.{Enough, Gets, Before, hand-out-length, hand-out-total, hand-out-gets, hand-out-order}
 use Rattle.pool_sharing.specs.Sharing.{total, weightOf, eligible, floorOf, remainderOf, floors, remainders, left, poolShares}
 
 -- the whole cents and the remainders make up the pool
@@ -83,6 +83,14 @@ module _ (pool : ℕ) (weights : List ℕ) (some : 0 < total weights) where
 
   pub share-at-most : (i : ℕ) → getD (poolShares pool weights) i 0 ≤ getD (floors pool weights) i 0 + 1
   share-at-most i = let got = gets i in omega arith
+
+  -- whoever gets a cent more than its whole cents has a larger remainder than anyone who gets none, or an equal one and a lower number
+  pub cents-in-order :
+      (i j : ℕ) → getD (floors pool weights) i 0 < getD (poolShares pool weights) i 0 → getD (poolShares pool weights) j 0 ≡ getD (floors pool weights) j 0
+      → Before (remainders pool weights) i j
+  unfolding poolShares
+  cents-in-order i j more none =
+      hand-out-order (total weights) (left pool weights) (remainders pool weights) (floors pool weights) start i j more none
 
 -- there is a share for each participant
 pub shares-length : (pool : ℕ) (weights : List ℕ) → length (poolShares pool weights) ≡ length weights

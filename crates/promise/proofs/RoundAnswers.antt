@@ -1,33 +1,29 @@
--- What the lists of an answered round say: no rival award has a higher value, and no bid or bidder is charged more than its
--- bid value.
+-- What an answered round says: its lists are the rules', no rival award has a higher value, its own award is one of them, and no
+-- bid or bidder is charged more than its bid value.
 use mathlib.Core.Path.{_≡_, refl, sym, _∙_, ap, ap₂, subst}
 use mathlib.Core.Bool.{Bool, true, false, cond}
 use mathlib.Core.List.{List, [], _∷_}
 use Prim.Native.Nat.{ℕ, _+_, _≤_, _<_}
 use native.Mathlib.Omega.{arith}
-use lib.Dec.{eqb}
-use lib.ListN.{length, getD, replicate}
+use lib.Dec.{eqb, ltb}
+use lib.ListN.{length, getD}
 use Rattle.market.proofs.Tables.{none-refused}
 use Rattle.market.specs.Answers.{answerNumber}
-use Rattle.market.specs.Limits.{bidLimit, pathLimit, bidderLimit}
+use Rattle.market.specs.Limits.{bidLimit, pathLimit, headerWords}
 use Rattle.market.specs.declared.book.Book.{Book}
 use Rattle.round_bids.proofs.Walk.{bids-few}
 use Rattle.round_bids.specs.Bids.{Bid, bidsOf}
-use Rattle.round_bids.specs.Encoding.{rightBids}
-use Rattle.round_admission.proofs.MarkLaws.{marks-length}
-use Rattle.round_admission.specs.Admission.{biddingLimits}
-use Rattle.round_award_rules.proofs.BestAward.{best-award, charge-within}
+use Rattle.round_award_rules.proofs.BestAward.{best-award, award-legal, award-value, charge-within}
 use Rattle.round_award_rules.proofs.RoundClaims.{EachBid}
-use Rattle.round_award_rules.specs.Awards.{Claim, claimsOf, awardsOf, wonBy, chargeOf}
-use Rattle.round_award_rules.specs.Rivals.{Rival, Legal, rivalValue, filledValue, totalValueFrom, totalValue}
-use Rattle.round_awards.proofs.TableLaws.{below-at, below-length, table-is}
-use Rattle.round_awards.specs.Tables.{below}
+use Rattle.round_award_rules.specs.Awards.{nextAt, claimsOf, Award, awardsOf, wonBy, chargeOf}
+use Rattle.round_award_rules.specs.Rivals.{Rival, Legal, rivalValue, filledValue, totalValueFrom, totalValue, filledAt, filledFrom, filledAward}
+use Rattle.round_awards.proofs.TableLaws.{below-at}
 use Rattle.market.specs.Books.{withFront}
 use Rattle.call_round.proofs.ReadyLaws.{listed}
 use Rattle.call_round.proofs.RoundBounds.{noBid}
-use Rattle.call_round.specs.Answers.{markIn, wonIn, chargeIn, offeredIn}
-use Rattle.call_round.specs.Round.{offeredNow, marksNow, awardsNow, wonNow, soldNow, pricesNow, bidAnswersNow, pathAnswersNow, round}
-use Rattle.call_round.proofs.ChargeLimits.{all-bids, below-most, charge-table}
+use Rattle.call_round.specs.Answers.{wonIn, chargeIn}
+use Rattle.call_round.specs.Round.{offeredNow, marksNow, awardsNow, wonNow, pricesNow, bidAnswersNow, pathAnswersNow, round}
+use Rattle.call_round.proofs.ChargeLimits.{all-bids, charge-table}
 use Rattle.call_round.proofs.Cleared.{RoundOpen, round-cleared}
 use Rattle.call_round.proofs.RoundLawful.{round-lawful}
 use Rattle.call_rules.proofs.Decides.{list-changes}
@@ -36,9 +32,9 @@ use Rattle.call_rules.specs.Rule.{Rule}
 use Rattle.call_rules.specs.Steps.{rulingOf, refusalOf, outcomeOf, listAfter, toAnswers, toResults}
 use Rattle.engine.specs.Lent.{Lent, listsOf}
 use Rattle.engine.specs.declared.calls.Call.the-variants.{Round}
-use Rattle.promise.specs.Answered.{NoRivalAbove, BidsWithin, BiddersWithin, ofBidder}
+use Rattle.promise.specs.Answered.{ListsTold, NoRivalAbove, OwnAward, BidsWithin, BiddersWithin, ofBidder}
 use Rattle.promise.specs.Runs.{Made, engineMade}
-use Rattle.promise.proofs.RowReads.{mark-read, won-read, charge-read, offered-read}
+use Rattle.promise.proofs.RowReads.{won-read, charge-read}
 
 -- ---- Sums over bids
 
@@ -60,55 +56,13 @@ bidder-under bidder f g n (b ∷ bs) most =
       bidder-under bidder f g (n + 1) bs (most .1),
     )
 
--- ---- Offers
-
--- the table of a list's numbers has no more at any place than the list
-below-under : (n : ℕ) (f : ℕ → ℕ) (l : List ℕ) → ((i : ℕ) → i < n → f i ≡ getD l i 0) → (i : ℕ) → getD (below n f) i 0 ≤ getD l i 0
-below-under n f l same i =
-    let alike : below n (λ k. getD l k 0) ≡ below n f = table-is (below n (λ k. getD l k 0)) n f (below-length n (λ k. getD l k 0))
-    (λ k inside. below-at n (λ k. getD l k 0) k inside ∙ sym (same k inside)) in
-    omega (arith, ap (λ (m : List ℕ). getD m i 0) alike, below-most n (λ k. getD l k 0) i)
-
--- a rival award that was within the offer is still within it where more is offered
-legal-with-more : (less more : List ℕ) (claims : List Claim) (gives : Rival) → ((path : ℕ) → getD less path 0 ≤ getD more path 0) → Legal less claims gives → Legal more claims gives
-legal-with-more less more claims gives under legal =
-    record { own = legal .own; shared = λ path. omega (arith, legal .shared path, under path) }
-
--- ---- Lists that read as an award
-
-module _ (paths : ℕ) (offered : List ℕ) (bids : List Bid) (marks : List ℕ) (right : rightBids paths bids ≡ true) (answers : List ℕ)
-    (wins : (k : ℕ) → k < length bids → wonIn answers k ≡ wonBy k (awardsOf offered bids marks)) where
-  module _ (results : List ℕ) (count : ℕ) (long : length marks ≡ length bids) (marked : (k : ℕ) → k < length bids → markIn answers k ≡ getD marks k 0)
-      (offers : (path : ℕ) → path < count → offeredIn results path ≡ getD offered path 0) where
-    same-claims : claimsOf bids marks ≡ claimsOf bids (below (length bids) (markIn answers))
-    same-claims =
-        ap (λ (l : List ℕ). claimsOf bids l)
-        (table-is marks (length bids) (markIn answers) long (λ k inside. sym (marked k inside)))
-
-    best-of : (gives : Rival) → Legal (below count (offeredIn results)) (claimsOf bids marks) gives → rivalValue gives (claimsOf bids marks) ≤ totalValue (wonIn answers) bids
-    best-of gives legal =
-        let awards = awardsOf offered bids marks in
-        let value = value-same (wonIn answers) (λ k. wonBy k awards) 0 bids (all-bids (λ k b. wonIn answers k ≡ wonBy k awards) bids noBid wins) in
-        let more = legal-with-more (below count (offeredIn results)) offered (claimsOf bids marks) gives (below-under count (offeredIn results) offered offers) legal in
-        omega (arith, value, best-award paths offered bids marks right gives more)
-
-    best-read :
-        (gives :
-        Rival) → Legal (below count (offeredIn results)) (claimsOf bids (below (length bids) (markIn answers))) gives
-        → rivalValue gives (claimsOf bids (below (length bids) (markIn answers))) ≤ totalValue (wonIn answers) bids
-    best-read =
-        subst (λ (claims : List Claim). (gives : Rival) → Legal (below count (offeredIn results)) claims gives → rivalValue gives claims ≤ totalValue (wonIn answers) bids) same-claims best-of
-
-  module _ (charged : (k : ℕ) (d : Bid) → k < length bids → chargeIn answers k ≤ chargeOf k (getD bids k d) (awardsOf offered bids marks)) where
-    charges-read : (k : ℕ) (d : Bid) → k < length bids → chargeIn answers k ≤ filledValue (wonIn answers k) (getD bids k d .laminations)
-    charges-read k d inside =
-        let same = ap (λ (won : ℕ). filledValue won (getD bids k d .laminations)) (wins k inside) in
-        omega (arith, same, charged k d inside, charge-within paths offered bids marks right k d inside)
-
-    bidders-read : (bidder : ℕ) → ofBidder bidder (λ k b. chargeIn answers k) 0 bids ≤ ofBidder bidder (λ k b. filledValue (wonIn answers k) (b .laminations)) 0 bids
-    bidders-read bidder =
-        bidder-under bidder (λ k b. chargeIn answers k) (λ k b. filledValue (wonIn answers k) (b .laminations)) 0 bids
-        (all-bids (λ k b. chargeIn answers k ≤ filledValue (wonIn answers k) (b .laminations)) bids noBid (λ k inside. charges-read k noBid inside))
+-- the award that fills bids in order looks only at what they won
+filled-same : (f g : ℕ → ℕ) (n at : ℕ) (bs : List Bid) → EachBid (λ k b. f k ≡ g k) n bs → (place : ℕ) → filledFrom f n at bs place ≡ filledFrom g n at bs place
+filled-same f g n at [] same place = refl
+filled-same f g n at (b ∷ bs) same place =
+    ap₂ (λ (here later : ℕ). cond (ltb place (nextAt at b)) here later)
+    (ap (λ (won : ℕ). filledAt won (at + headerWords) (b .laminations) place) (same .0))
+    (filled-same f g (n + 1) (nextAt at b) bs (same .1) place)
 
 -- ---- An answered round
 
@@ -125,6 +79,9 @@ module _ (b : Book) (words : List ℕ) (l : Lent) (none : answerNumber (roundMad
 
   abbrev marks : List ℕ
   marks = marksNow b bids
+
+  abbrev awards : List Award
+  awards = awardsOf (offeredNow b) bids marks
 
   abbrev answers : List ℕ
   answers = listAfter toAnswers rule b words (l .answers)
@@ -159,42 +116,59 @@ module _ (b : Book) (words : List ℕ) (l : Lent) (none : answerNumber (roundMad
   pub same-count : after .«path_count» ≡ b .«path_count»
   same-count = same-paths rule (listsOf l) (round-lawful (l .bids) (listsOf l) (l .scratch)) b words
 
-  -- the words of its lists
-  marked : (k : ℕ) → k < length bids → markIn answers k ≡ getD marks k 0
-  marked k inside =
-      ap (λ (words : List ℕ). markIn words k) answers-are
-      ∙ mark-read marks (wonNow b bids) (pricesNow b bids) bids (l .answers) k noBid inside
+  pub lists-told : ListsTold (roundMade b words l)
+  lists-told = record { bids = answers-are; paths = results-are }
 
-  wins : (k : ℕ) → k < length bids → wonIn answers k ≡ wonBy k (awardsOf (offeredNow b) bids marks)
+  -- the words of its lists
+  wins : (k : ℕ) → k < length bids → wonIn answers k ≡ wonBy k awards
   unfolding awardsNow
   wins k inside =
       ap (λ (words : List ℕ). wonIn words k) answers-are
       ∙ won-read marks (wonNow b bids) (pricesNow b bids) bids (l .answers) k noBid inside
       ∙ below-at bidLimit (λ bid. wonBy bid (awardsNow b bids)) k (omega (arith, few))
 
-  charged : (k : ℕ) (d : Bid) → k < length bids → chargeIn answers k ≤ chargeOf k (getD bids k d) (awardsOf (offeredNow b) bids marks)
+  each-won : EachBid (λ k x. wonIn answers k ≡ wonBy k awards) 0 bids
+  each-won = all-bids (λ k x. wonIn answers k ≡ wonBy k awards) bids noBid wins
+
+  charged : (k : ℕ) (d : Bid) → k < length bids → chargeIn answers k ≤ chargeOf k (getD bids k d) awards
   unfolding awardsNow
   charged k d inside =
       rw answers-are
       (rw (charge-read marks (wonNow b bids) (pricesNow b bids) bids (l .answers) k d inside)
       (charge-table (b .«path_count») (offeredNow b) bids marks (opened .right) bidLimit pathLimit k (getD bids k d)))
 
-  offers : (path : ℕ) → path < after .«path_count» → offeredIn results path ≡ getD (offeredNow b) path 0
-  offers path inside =
-      ap (λ (words : List ℕ). offeredIn words path) results-are
-      ∙ offered-read (offeredNow b) (soldNow b bids) (pricesNow b bids) (b .«path_count») (l .results) path
-      (omega (arith, same-count))
+  same-value : totalValue (wonIn answers) bids ≡ totalValue (λ k. wonBy k awards) bids
+  same-value = value-same (wonIn answers) (λ k. wonBy k awards) 0 bids each-won
 
   -- "in each answered round its total bid value is at least that of every rival award"
   pub no-rival-above : NoRivalAbove (roundMade b words l)
-  no-rival-above =
-      best-read (b .«path_count») (offeredNow b) bids marks (opened .right) answers wins results (after .«path_count»)
-      (marks-length (biddingLimits b) (replicate bidderLimit 0) bids) marked offers
+  no-rival-above gives legal =
+      omega (arith, same-value, best-award (b .«path_count») (offeredNow b) bids marks (opened .right) gives legal)
+
+  -- and its own is one of them
+  same-award : filledAward (λ k. wonBy k awards) bids ≡ filledAward (wonIn answers) bids
+  same-award = λ i place. sym (filled-same (wonIn answers) (λ k. wonBy k awards) 0 0 bids each-won place) i
+
+  pub own-award : OwnAward (roundMade b words l)
+  own-award =
+      record {
+        legal =
+            subst (Legal (offeredNow b) (claimsOf bids marks)) same-award
+            (award-legal (b .«path_count») (offeredNow b) bids marks (opened .right));
+        value =
+            ap (λ (gives : Rival). rivalValue gives (claimsOf bids marks)) (sym same-award)
+            ∙ award-value (b .«path_count») (offeredNow b) bids marks (opened .right)
+            ∙ sym same-value;
+      }
 
   -- "no bid is charged more than its bid value for what it won"
   pub bids-within : BidsWithin (roundMade b words l)
-  bids-within = charges-read (b .«path_count») (offeredNow b) bids marks (opened .right) answers wins charged
+  bids-within k d inside =
+      let same = ap (λ (won : ℕ). filledValue won (getD bids k d .laminations)) (wins k inside) in
+      omega (arith, same, charged k d inside, charge-within (b .«path_count») (offeredNow b) bids marks (opened .right) k d inside)
 
   -- and so no bidder is
   pub bidders-within : BiddersWithin (roundMade b words l)
-  bidders-within = bidders-read (b .«path_count») (offeredNow b) bids marks (opened .right) answers wins charged
+  bidders-within bidder =
+      bidder-under bidder (λ k x. chargeIn answers k) (λ k x. filledValue (wonIn answers k) (x .laminations)) 0 bids
+      (all-bids (λ k x. chargeIn answers k ≤ filledValue (wonIn answers k) (x .laminations)) bids noBid (λ k inside. bids-within k noBid inside))

@@ -32,7 +32,7 @@ module _ (b : Book) (words : List ℕ) (sound : SoundMemory b words) (r : Reques
   -- it is the rules'
   step-same : engineMade b words r ≡ rulesMade b (countedEntries b words) r
   step-same =
-      ap (madeWith r)
+      ap (madeWith b r)
       (steps.effect-same (ruleOf (r .what) (r .lent)) (listsOf (r .lent)) (lawful (r .what) (r .lent)) b words sound)
 
   -- 2 is not its answer

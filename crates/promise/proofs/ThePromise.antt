@@ -17,11 +17,11 @@ use Rattle.call_rules.specs.Money.{worth}
 use Rattle.call_rules.specs.State.{SoundMemory}
 use Rattle.engine.specs.Lent.{Lent}
 use Rattle.engine.specs.declared.calls.Call.{Call}
-use Rattle.promise.specs.Answered.{IfRound, NoRivalAbove, BidsWithin, BiddersWithin}
+use Rattle.promise.specs.Answered.{IfRound, ListsTold, NoRivalAbove, OwnAward, BidsWithin, BiddersWithin}
 use Rattle.promise.specs.Promise.{NotUnsound, Promise}
 use Rattle.promise.specs.Runs.{Request, Made, engineMade, engineRun, rulesRun}
 use Rattle.promise.specs.Sums.{allIn, allOut}
-use Rattle.promise.proofs.RoundAnswers.{roundMade, no-rival-above, bids-within, bidders-within}
+use Rattle.promise.proofs.RoundAnswers.{roundMade, lists-told, no-rival-above, own-award, bids-within, bidders-within}
 use Rattle.promise.proofs.RunLaws.{each-call, run-same, step-not-unsound, run-money}
 
 -- a fact of each answered round holds of each call that is an answered round
@@ -57,6 +57,8 @@ module _ (routes : List Route) (paths : ℕ) (words : List ℕ) (calls : List Re
       record {
         by-the-rules = run-same start words sound calls ∙ ap (λ (es : List Entry). rulesRun start es calls) none-counted;
         never-unsound = each-call NotUnsound step-not-unsound start words sound calls;
+        lists-told = each-call (IfRound ListsTold) (λ b now state. of-rounds ListsTold lists-told b now) start words sound calls;
+        own-award = each-call (IfRound OwnAward) (λ b now state. of-rounds OwnAward own-award b now) start words sound calls;
         best-award = each-call (IfRound NoRivalAbove) (λ b now state. of-rounds NoRivalAbove no-rival-above b now) start words sound calls;
         bids-within = each-call (IfRound BidsWithin) (λ b now state. of-rounds BidsWithin bids-within b now) start words sound calls;
         bidders-within = each-call (IfRound BiddersWithin) (λ b now state. of-rounds BiddersWithin bidders-within b now) start words sound calls;

@@ -8,7 +8,7 @@ use Rattle.market.specs.Answers.{answerNumber}
 use Rattle.market.specs.Fresh.{freshBook}
 use Rattle.market.specs.declared.book.Route.{Route}
 use Rattle.call_rules.specs.Money.{worth}
-use Rattle.promise.specs.Answered.{IfRound, NoRivalAbove, BidsWithin, BiddersWithin}
+use Rattle.promise.specs.Answered.{IfRound, ListsTold, NoRivalAbove, OwnAward, BidsWithin, BiddersWithin}
 use Rattle.promise.specs.Runs.{Request, Made, engineRun, rulesRun}
 use Rattle.promise.specs.Sums.{allIn, allOut, lastBook}
 
@@ -27,7 +27,10 @@ pub record Promise (routes : List Route) (paths : ℕ) (words : List ℕ) (calls
   -- book and entries after each call; the rules start from no entries, and never see the words
   pub by-the-rules : engineRun (freshBook routes paths) words calls ≡ rulesRun (freshBook routes paths) [] calls
   pub never-unsound : EachCall NotUnsound (engineRun (freshBook routes paths) words calls)
-  -- "in each answered round its total bid value is at least that of every rival award"
+  -- the lists of each answered round are the rules', from the book before it and the call's words
+  pub lists-told : EachCall (IfRound ListsTold) (engineRun (freshBook routes paths) words calls)
+  -- "in each answered round its total bid value is at least that of every rival award", and the engine's own is one of them
+  pub own-award : EachCall (IfRound OwnAward) (engineRun (freshBook routes paths) words calls)
   pub best-award : EachCall (IfRound NoRivalAbove) (engineRun (freshBook routes paths) words calls)
   -- "no bid is charged more than its bid value for what it won", and no bidder
   pub bids-within : EachCall (IfRound BidsWithin) (engineRun (freshBook routes paths) words calls)

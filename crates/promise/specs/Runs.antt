@@ -19,16 +19,18 @@ pub record Request : Type 0 where
   pub what : Call
   pub lent : Lent
 
--- a call that was made: what it was, what came back, and book and entries after it
+-- a call that was made: the book before it, what it was, what came back, and book and entries after it
 pub record Made : Type 0 where
+  pub before : Book
   pub request : Request
   pub reply : Reply
   pub book : Book
   pub entries : List Entry
 
-abbrev pub madeWith : Request → Effect → Made
-madeWith r done =
+abbrev pub madeWith : Book → Request → Effect → Made
+madeWith b r done =
     record {
+      before = b;
       request = r;
       reply = record { answer = done .outcome .answer; lists = done .lists };
       book = done .outcome .book;
@@ -46,7 +48,7 @@ abbrev pub engineStep : Book → List ℕ → Request → Left
 engineStep b words r = step b words (r .what) (r .lent)
 
 abbrev pub engineMade : Book → List ℕ → Request → Made
-engineMade b words r = madeWith r (leftWith (engineStep b words r))
+engineMade b words r = madeWith b r (leftWith (engineStep b words r))
 
 abbrev pub engineRun : Book → List ℕ → List Request → List Made
 engineRun b words [] = []
@@ -56,7 +58,7 @@ engineRun b words (r ∷ rs) =
 -- ---- The rules, which know the book and its entries alone
 
 abbrev pub rulesMade : Book → List Entry → Request → Made
-rulesMade b es r = madeWith r (ruled (ruleOf (r .what) (r .lent)) b es (listsOf (r .lent)))
+rulesMade b es r = madeWith b r (ruled (ruleOf (r .what) (r .lent)) b es (listsOf (r .lent)))
 
 abbrev pub rulesRun : Book → List Entry → List Request → List Made
 rulesRun b es [] = []

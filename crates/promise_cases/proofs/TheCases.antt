@@ -1,6 +1,7 @@
 -- Every row is computed: both sides of an equation come to the same numbers.
 use mathlib.Core.Path.{refl}
-use Rattle.market.specs.Fresh.{freshBook}
+use Rattle.text_numbers.specs.Decimal.{decimal}
+use Rattle.market.specs.Fresh.{fresh, freshBook}
 use Rattle.market.specs.Sound.{soundBook}
 use Rattle.pool_sharing.specs.Sharing.{poolShares}
 use Rattle.pool_columns.specs.Pools.{sharesOf}
@@ -13,6 +14,15 @@ use Rattle.call_payout.specs.Payout.{amountsOf, payout}
 use Rattle.call_disburse.specs.Disbursement.{settle}
 use Rattle.round_award_rules.specs.Awards.{awardsOf}
 use Rattle.call_round.specs.Round.{awardsNow, round}
+use Rattle.call_rules.specs.Steps.{refusalOf, outcomeOf, wordsAfter, listAfter}
+use Rattle.sheet_form.specs.Form.{formOf}
+use Rattle.sheet_form.specs.Reading.{sheetIn}
+use Rattle.award_sheet_round.specs.RoundLines.{roundText}
+use Rattle.award_sheet_parts.specs.AwardSheet.{awardText}
+use Rattle.sheet_calls.specs.Calls.{opened}
+use Rattle.sheet_rounds.specs.Rounds.{sheetRound, outputFrom}
+use Rattle.sheet_output.specs.Output.{sheetOutput, outputOf}
+use Rattle.promise_cases.specs.SheetText.{SheetText}
 use Rattle.promise_cases.specs.Cases.{NoBids, SheetCase, LongRounds, Offers, Admission, Defaults, Earnings, Shares, Starred}
 
 no-bids : NoBids
@@ -22,6 +32,11 @@ no-bids = record { answered = refl; path = refl; idle-after = refl }
 sheet : SheetCase
 unfolding freshBook soundBook deposit «open» round awardsNow awardsOf pay default
 sheet = record { answered = refl; bids = refl; path = refl; bidder-3 = refl; bidder-7 = refl; pending = refl }
+
+sheet-text : SheetText
+unfolding outputOf sheetOutput outputFrom sheetRound opened formOf sheetIn decimal awardText roundText refusalOf outcomeOf wordsAfter listAfter deposit
+    fresh freshBook «open» soundBook round awardsNow awardsOf
+sheet-text = record { award = refl; refused = refl }
 
 long-rounds : LongRounds
 unfolding freshBook soundBook deposit «open» round awardsNow awardsOf pay default
@@ -52,6 +67,7 @@ starred =
     record {
       no-bids = no-bids;
       sheet = sheet;
+      sheet-text = sheet-text;
       long-rounds = long-rounds;
       offers = offers;
       admission = admission;

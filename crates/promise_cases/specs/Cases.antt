@@ -24,6 +24,7 @@ use Rattle.register.specs.Words.{encodedEntry}
 use Rattle.engine.specs.Lent.{Lent, lent}
 use Rattle.engine.specs.declared.calls.Call.{Call}
 use Rattle.engine.specs.declared.calls.Call.the-variants.{Deposit, Open, Round, Pay, Default, Rent, Payout, Disburse}
+use Rattle.promise_cases.specs.SheetText.{SheetText}
 use Rattle.promise.specs.Runs.{Request, Made, rulesRun}
 
 -- ---- Calls
@@ -282,6 +283,7 @@ pub record Shares : Type 0 where
 pub record Starred : Type 0 where
   pub no-bids : NoBids
   pub sheet : SheetCase
+  pub sheet-text : SheetText
   pub long-rounds : LongRounds
   pub offers : Offers
   pub admission : Admission

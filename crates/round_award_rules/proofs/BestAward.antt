@@ -10,7 +10,7 @@ use Rattle.market.specs.Limits.{admitted, priceLimit}
 use Rattle.round_bids.specs.Bids.{Bid}
 use Rattle.round_bids.specs.Encoding.{rightBids}
 use Rattle.round_award_rules.specs.Awards.{Claim, Award, claimsOf, inOrder, awardsOf, wonBy, soldOn, priceOn, chargeOf}
-use Rattle.round_award_rules.specs.Rivals.{Each, Rival, Legal, rivalValue, filledValue, totalValue}
+use Rattle.round_award_rules.specs.Rivals.{Each, Rival, Legal, rivalValue, filledValue, totalValue, filledAward}
 use Rattle.round_award_rules.proofs.Claims.{each-map, EachAward}
 use Rattle.round_award_rules.proofs.OrderLaws.{sum-order, each-order, falling-order}
 use Rattle.round_award_rules.proofs.WalkLaws.{sold-within, taken-within, each-walk}
@@ -19,7 +19,7 @@ use Rattle.round_award_rules.proofs.PriceLaws.{Took, price-lowest, none
 use Rattle.round_award_rules.proofs.BidClaims.{Strict}
 use Rattle.round_award_rules.proofs.RoundClaims.{EachBid, bids-map, bids-at, SoundPairs, right-pairs, InRound, claims-from, Own, own-claims}
 use Rattle.round_award_rules.proofs.RoundLaws.{own-path-won, over-none, fills-bid, sumBids, value-sum, ofOne, sums-by-bid, path-part}
-use Rattle.round_award_rules.proofs.Filling.{filled, Given, given-from}
+use Rattle.round_award_rules.proofs.Filling.{Given, given-from}
 
 -- ---- What is known of a round's claims
 
@@ -110,7 +110,7 @@ module _ (paths : ℕ) (offered : List ℕ) (bids : List Bid) (marks : List ℕ)
       sums-by-bid f g awards bids bid-below
       (bids-map (Own (claimsOf bids marks) marks) (λ k b. ofOne f k awards ≡ g k b) 0 bids (λ k b from mine. path-part k (b .path) path awards (on-path k b mine)) own)
 
-  given : Given (λ k. wonBy k (awardsOf offered bids marks)) 0 bids (claimsOf bids marks) (filled (λ k. wonBy k (awardsOf offered bids marks)) bids)
+  given : Given (λ k. wonBy k (awardsOf offered bids marks)) 0 bids (claimsOf bids marks) (filledAward (λ k. wonBy k (awardsOf offered bids marks)) bids)
   given =
       let won : ℕ → ℕ = λ k. wonBy k (awardsOf offered bids marks) in
       given-from won marks 0 0 bids
@@ -118,7 +118,7 @@ module _ (paths : ℕ) (offered : List ℕ) (bids : List Bid) (marks : List ℕ)
 
   -- "the engine's fills a bid's laminations in order with its answered MW": filled in this way, the round's award is itself a
   -- rival award
-  pub award-legal : Legal offered (claimsOf bids marks) (filled (λ k. wonBy k (awardsOf offered bids marks)) bids)
+  pub award-legal : Legal offered (claimsOf bids marks) (filledAward (λ k. wonBy k (awardsOf offered bids marks)) bids)
   award-legal =
       record {
         own = given .own;
@@ -127,7 +127,7 @@ module _ (paths : ℕ) (offered : List ℕ) (bids : List Bid) (marks : List ℕ)
 
   -- "Bid value, in total or for what a bid won, sums price × MW given": the value of that award is the round's
   -- total bid value, so no rival award has a higher value than this one, which is itself a rival award
-  pub award-value : rivalValue (filled (λ k. wonBy k (awardsOf offered bids marks)) bids) (claimsOf bids marks) ≡ totalValue (λ k. wonBy k (awardsOf offered bids marks)) bids
+  pub award-value : rivalValue (filledAward (λ k. wonBy k (awardsOf offered bids marks)) bids) (claimsOf bids marks) ≡ totalValue (λ k. wonBy k (awardsOf offered bids marks)) bids
   award-value = given .value
 
   -- ---- Each bid

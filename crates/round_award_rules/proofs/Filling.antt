@@ -4,34 +4,18 @@ use mathlib.Core.Bool.{Bool, true, false, cond}
 use mathlib.Core.List.{List, [], _∷_, _++_}
 use Prim.Native.Nat.{ℕ, _+_, _*_, _-_, _≤_, _<_, min}
 use native.Mathlib.Omega.{arith}
-use lib.Dec.{eqb, ltb}
+use lib.Dec.{eqb}
 use lib.ListN.{length, getD}
 use borrow.Author.Tests.{lt-ltb, le-ltb, eq-eqb, ne-eqb}
 use Rattle.market.specs.Limits.{headerWords, pairWords, admitted}
 use Rattle.round_bids.specs.Bids.{Bid}
 use Rattle.round_bids.specs.declared.Lamination.{Lamination}
-use Rattle.round_award_rules.specs.Awards.{Claim, claimsIn, claimsOfBid, claimsFrom, sumOf}
-use Rattle.round_award_rules.specs.Rivals.{Each, Rival, givenOn, rivalValue, filledValue, totalValueFrom}
+use Rattle.round_award_rules.specs.Awards.{Claim, nextAt, claimsIn, claimsOfBid, claimsFrom, sumOf}
+use Rattle.round_award_rules.specs.Rivals.{Each, Rival, givenOn, rivalValue, filledValue, totalValueFrom, filledAt, filledFrom}
 use Rattle.round_award_rules.proofs.Claims.{each-map, each-append}
-use Rattle.round_award_rules.proofs.RoundClaims.{EachBid, nextAt}
+use Rattle.round_award_rules.proofs.RoundClaims.{EachBid}
 use Rattle.round_award_rules.proofs.FillLaws.{filledClaims, filled-in, filled-none}
 use Rattle.round_award_rules.proofs.RoundLaws.{sumBids}
-
--- "fills a bid's laminations in order": what the pair at `place` gets of the MW that its bid won; the first pair is at `first`
-abbrev pub filledAt : ℕ → ℕ → List Lamination → Rival
-filledAt won first [] place = 0
-filledAt won first (l ∷ ls) place =
-    cond (eqb place first) (min (l .quantity .0) won) (filledAt (won - min (l .quantity .0) won) (first + pairWords) ls place)
-
--- the same over bids from a number on, the first of which begins at a place
-abbrev pub filledFrom : (ℕ → ℕ) → ℕ → ℕ → List Bid → Rival
-filledFrom won bid at [] place = 0
-filledFrom won bid at (b ∷ bs) place =
-    cond (ltb place (nextAt at b)) (filledAt (won bid) (at + headerWords) (b .laminations) place)
-    (filledFrom won (bid + 1) (nextAt at b) bs place)
-
-abbrev pub filled : (ℕ → ℕ) → List Bid → Rival
-filled won bids = filledFrom won 0 0 bids
 
 -- ---- Claims that an award fills in order
 

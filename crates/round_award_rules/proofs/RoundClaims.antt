@@ -2,7 +2,7 @@
 use mathlib.Core.Path.{_≡_, refl, _∙_, ap, ap₂, subst}
 use mathlib.Core.Bool.{Bool, true, false, cond, not, _&&_}
 use mathlib.Core.List.{List, [], _∷_, _++_, append-nil}
-use Prim.Native.Nat.{ℕ, zero, suc, _+_, _*_, _≤_, _<_}
+use Prim.Native.Nat.{ℕ, zero, suc, _+_, _≤_, _<_}
 use native.Mathlib.Omega.{arith}
 use lib.Dec.{eqb, leb, ltb}
 use lib.ListN.{length, getD}
@@ -13,7 +13,7 @@ use Rattle.round_bids.specs.Bids.{Bid, headerOf}
 use Rattle.round_bids.specs.Encoding.{rightAfter}
 use Rattle.round_bids.specs.BidRefusals.{soundLamination, soundLaminations, abovePrices, soundHeader, soundBid, hasBid, stampOf}
 use Rattle.round_bids.specs.declared.Lamination.{Lamination}
-use Rattle.round_award_rules.specs.Awards.{Claim, claimsIn, claimsOfBid, claimsFrom}
+use Rattle.round_award_rules.specs.Awards.{Claim, nextAt, claimsIn, claimsOfBid, claimsFrom}
 use Rattle.round_award_rules.specs.Rivals.{Each}
 use Rattle.round_award_rules.proofs.Claims.{each-map, each-append}
 use Rattle.round_award_rules.proofs.BidClaims.{ofBid, of-append, of-all, of-none, Above, Strict, strict-append}
@@ -102,10 +102,6 @@ pub record InRound (first next : ℕ) (l : Claim) : Type 0 where
   pub to : l .bid < next
   pub some : 1 ≤ l .price
   pub top : l .price ≤ priceLimit
-
--- where the bid after this one begins
-abbrev pub nextAt : ℕ → Bid → ℕ
-nextAt at b = at + headerWords + length (b .laminations) * pairWords
 
 pub claims-from : (n at : ℕ) (bs : List Bid) (marks : List ℕ) → EachBid SoundPairs n bs → Each (InRound n (n + length bs)) (claimsFrom n at bs marks) × Strict (claimsFrom n at bs marks)
 claims-from n at [] marks h = (tt, tt)

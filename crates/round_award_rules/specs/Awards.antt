@@ -32,12 +32,16 @@ abbrev pub claimsOfBid : ℕ → ℕ → Bid → ℕ → List Claim
 claimsOfBid bid at b mark =
     cond (eqb mark admitted) (claimsIn bid (b .path) (at + headerWords) (b .laminations)) []
 
+-- the place where the next bid begins, after a bid that begins at a place
+abbrev pub nextAt : ℕ → Bid → ℕ
+nextAt at b = at + headerWords + length (b .laminations) * pairWords
+
 -- those of bids from a number on, the first of which begins at a place
 abbrev pub claimsFrom : ℕ → ℕ → List Bid → List ℕ → List Claim
 claimsFrom bid at [] marks = []
 claimsFrom bid at (b ∷ bs) marks =
     claimsOfBid bid at b (getD marks bid 0)
-    ++ claimsFrom (bid + 1) (at + headerWords + length (b .laminations) * pairWords) bs marks
+    ++ claimsFrom (bid + 1) (nextAt at b) bs marks
 
 abbrev pub claimsOf : List Bid → List ℕ → List Claim
 claimsOf bids marks = claimsFrom 0 0 bids marks

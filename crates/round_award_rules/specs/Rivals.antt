@@ -4,11 +4,12 @@
 use mathlib.Core.Bool.{cond}
 use mathlib.Core.List.{List, [], _∷_}
 use Prim.Native.Nat.{ℕ, _+_, _*_, _-_, _≤_, min}
-use lib.Dec.{eqb}
+use lib.Dec.{eqb, ltb}
 use lib.ListN.{getD}
+use Rattle.market.specs.Limits.{headerWords, pairWords}
 use Rattle.round_bids.specs.Bids.{Bid}
 use Rattle.round_bids.specs.declared.Lamination.{Lamination}
-use Rattle.round_award_rules.specs.Awards.{Claim, sumOf}
+use Rattle.round_award_rules.specs.Awards.{Claim, nextAt, sumOf}
 
 -- a fact of each claim
 abbrev pub Each : (Claim → Type 0) → List Claim → Type 0
@@ -45,3 +46,20 @@ totalValueFrom won bid (b ∷ bs) = filledValue (won bid) (b .laminations) + tot
 
 abbrev pub totalValue : (ℕ → ℕ) → List Bid → ℕ
 totalValue won bids = totalValueFrom won 0 bids
+
+-- the award that fills each bid's laminations in order with the MW that it won, as a rival award. Of one bid: what the pair at
+-- `place` gets; the first pair is at `first`
+abbrev pub filledAt : ℕ → ℕ → List Lamination → Rival
+filledAt won first [] place = 0
+filledAt won first (l ∷ ls) place =
+    cond (eqb place first) (min (l .quantity .0) won) (filledAt (won - min (l .quantity .0) won) (first + pairWords) ls place)
+
+-- of bids from a number on, the first of which begins at a place
+abbrev pub filledFrom : (ℕ → ℕ) → ℕ → ℕ → List Bid → Rival
+filledFrom won bid at [] place = 0
+filledFrom won bid at (b ∷ bs) place =
+    cond (ltb place (nextAt at b)) (filledAt (won bid) (at + headerWords) (b .laminations) place)
+    (filledFrom won (bid + 1) (nextAt at b) bs place)
+
+abbrev pub filledAward : (ℕ → ℕ) → List Bid → Rival
+filledAward won bids = filledFrom won 0 0 bids

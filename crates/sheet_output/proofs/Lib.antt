@@ -1,5 +1,4 @@
 -- The paper's sheet, and the output of a well-formed sheet.
 pub mod OutputLaws
-pub mod PaperSheet
 pub mod RunLaws
 pub mod SheetRun

@@ -1,6 +1,6 @@
 -- On a sound book the own rows decide (own-decide). By cases on their number: any but 0 is the rule's refusal
--- (refuses), 0 its answer (takes). Where no row holds, deposit-cleared gives what the callees require: the bidder's number is within the limit, and there is room for
--- the amount.
+-- (refuses), 0 its answer (takes). Where no row holds, deposit-cleared gives what the callees require: the bidder's
+-- number is within the limit, and there is room for the amount.
 use mathlib.Core.Path.{_≡_, sym, _∙_, ap}
 use mathlib.Core.Bool.{true}
 use Prim.Native.Nat.{_<_}

@@ -1,5 +1,6 @@
 -- On a sound book the own rows decide (own-decide). By cases on their number: any but 0 is the rule's refusal
--- (refuses), 0 its answer (takes). Where no row holds, withdraw-cleared gives what the callees require: the bidder's number, and that the amount may be withdrawn.
+-- (refuses), 0 its answer (takes). Where no row holds, withdraw-cleared gives what the callees require: the bidder's
+-- number is within the limit, and the amount may be withdrawn.
 use mathlib.Core.Path.{_≡_, sym, _∙_, ap}
 use Prim.Native.Nat.{_≤_, _<_}
 use Rattle.market.proofs.SoundLaws.{bidder-within}
