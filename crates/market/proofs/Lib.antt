@@ -2,6 +2,7 @@
 pub mod Every
 pub mod Filled
 pub mod FreshLaws
+pub mod KindLaws
 pub mod SoundLaws
 pub mod Tables
 pub mod Tests

@@ -1,7 +1,7 @@
 -- Document 01, "Book and units": what the book holds, and a book with one part changed. The types themselves are those that
 -- `src/` declares.
 use mathlib.Core.Bool.{Bool, true, not, _&&_, _||_}
-use mathlib.Core.List.{List, [], _∷_, _++_}
+use mathlib.Core.List.{List, [], _∷_, _++_, map}
 use Prim.Native.Nat.{ℕ, _+_}
 use lib.Dec.{eqb}
 use lib.IntN.{ℤ}
@@ -47,6 +47,13 @@ balance z = record { 0 = z }
 
 abbrev pub zonePrice : ℤ → ZonePrice
 zonePrice z = record { 0 = z }
+
+-- the numbers of a list of amounts, and of a list of quantities
+abbrev pub inCents : List Cents → List ℕ
+inCents amounts = map (λ x. x .0) amounts
+
+abbrev pub inMegawatts : List Megawatts → List ℕ
+inMegawatts quantities = map (λ x. x .0) quantities
 
 -- "The book holds 1 to 16 paths, numbered from 0": slots past the count are no part of the book
 abbrev pub pathsOf : Book → List Path
