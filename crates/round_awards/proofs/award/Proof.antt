@@ -3,15 +3,22 @@
 -- at most `i` quantity limits, so it fits.
 use borrow.Author.Needs.{needs}
 use native.Mathlib.Omega.{arith}
-use Prim.Native.Nat.{_≤_, _<_, _-_}
-use lib.ListN.{getD}
+use mathlib.Core.Path.{_≡_, sym, _∙_, ap}
+use mathlib.Core.Bool.{cond}
+use Prim.Native.Nat.{ℕ, _≤_, _<_, _+_, _-_, min}
+use lib.Dec.{ltb}
+use lib.ListN.{getD, length, length-map}
+use Rattle.market.proofs.KindLaws.{map-change, megawatts-at}
+use Rattle.market.specs.Books.{cents, megawatts, inCents, inMegawatts}
+use Rattle.round_award_rules.specs.Awards.{lower}
 use Rattle.market.specs.Limits.{pathLimit, bidLimit, quantityLimit}
 use Rattle.round_awards.proofs.AwardLaws.{AwardedTo, none-awarded, pair-fits, bid-fits, left-within, one-awarded, all-won, all-sold, all-priced}
 use Rattle.round_awards.proofs.award.Statement.{statement}
 use Rattle.round_awards.proofs.award.Tie as tie
 
 abbrev Inv-loop : tie.InvT-loop
-Inv-loop words order claims left₀ won₀ sold₀ prices₀ i₀ left won sold prices i = (i ≤ claims) × AwardedTo words order claims left₀ i left won sold prices
+Inv-loop words order claims left₀ won₀ sold₀ prices₀ i₀ left won sold prices i =
+    (i ≤ claims) × AwardedTo words order claims (inMegawatts left₀) i (inMegawatts left) (inMegawatts won) (inMegawatts sold) (inCents prices)
 
 abbrev μ-loop : tie.MeasureT-loop
 μ-loop words order claims left₀ won₀ sold₀ prices₀ i₀ left won sold prices i = claims - i
@@ -19,7 +26,8 @@ abbrev μ-loop : tie.MeasureT-loop
 loop-holds : tie.Need-loop-holds Inv-loop μ-loop
 loop-holds c = let a = c .before .before .args in
     let pre = c .before .before .pre in
-    (search needs, none-awarded (a .words .now) (a .order .now) (a .claims) (a .offered) (search needs) (pre .1 .1 .1))
+    let slots : length (a .offered) ≡ pathLimit = search needs in
+    (search needs, none-awarded (a .words .now) (a .order .now) (a .claims) (inMegawatts (a .offered)) (length-map (a .offered) (λ x. x .0) ∙ slots) (pre .1 .1 .1))
 
 claim-in-requires : tie.Need-claim-in-requires Inv-loop μ-loop
 claim-in-requires c κs = let start = c .before .before .before .before .before in
@@ -41,26 +49,44 @@ module _ (p : tie.After-claim-in Inv-loop μ-loop) where
       let fits = bid-fits (turn .loop .inv .1) (search needs) (start .pre .0) (start .pre .1 .1 .0) in
       omega (arith, fits, p .claim-in .ensures .0)
 
-  left-most : getD (turn .loop .left) (p .claim-in .result .path) 0 ≤ quantityLimit
+  left-most : getD (turn .loop .left) (p .claim-in .result .path) (megawatts 0) .0 ≤ quantityLimit
   left-most =
-      left-within (turn .loop .inv .1) (search needs) (start .pre .0) (start .pre .1 .1 .0) (p .claim-in .result .path)
+      let within = left-within (turn .loop .inv .1) (search needs) (start .pre .0) (start .pre .1 .1 .0) (p .claim-in .result .path) in
+      omega (arith, within, megawatts-at (turn .loop .left) (p .claim-in .result .path))
 
-add-bid-won : tie.Need-add-bid-won Inv-loop μ-loop
-add-bid-won c = let p = c .before .before .before .before .before in
-    let within = turn p .loop .inv .1 .won-within (p .claim-in .result .bid) in
-    record { fits = omega (arith, left-most p, c .before .before .taken-of .ensures, within, start p .pre .1 .0) }
+add-won-now : tie.Need-add-won-now Inv-loop μ-loop
+add-won-now c = let p = c .before .before .before .before .before .before .before .before .before .before .before .before .before in
+    let bid = p .claim-in .result .bid in
+    let within = turn p .loop .inv .1 .won-within bid in
+    let taken = c .before .before .before .before .before .before .before .taken-of .ensures in
+    record { fits = omega (arith, left-most p, taken, within, megawatts-at (turn p .loop .won) bid, start p .pre .1 .0) }
 
-add-path-sold : tie.Need-add-path-sold Inv-loop μ-loop
-add-path-sold c = let p = c .before .before .before .before .before in
-    let within = turn p .loop .inv .1 .sold-within (p .claim-in .result .path) in
-    record { fits = omega (arith, left-most p, c .before .before .taken-of .ensures, within, start p .pre .1 .0) }
+add-sold-now : tie.Need-add-sold-now Inv-loop μ-loop
+add-sold-now c = let p = c .before .before .before .before .before .before .before .before .before .before .before .before .before .before .before in
+    let path = p .claim-in .result .path in
+    let within = turn p .loop .inv .1 .sold-within path in
+    let taken = c .before .before .before .before .before .before .before .before .before .taken-of .ensures in
+    record { fits = omega (arith, left-most p, taken, within, megawatts-at (turn p .loop .sold) path, start p .pre .1 .0) }
 
 loop-again : tie.Need-loop-again Inv-loop μ-loop
-loop-again c = let p = c .before .before .before .before .before in
-    let e = p .claim-in .ensures in (
+loop-again c = let p = c .before .before .before .before .before .before .before .before .before .before .before .before .before .before .before in
+    let at = turn p .loop in
+    let claim = p .claim-in .result in
+    let e = p .claim-in .ensures in
+    let path = claim .path in
+    let takes = min (claim .quantity .0) (getD (inMegawatts (at .left)) path 0) in
+    let taken : c .before .before .before .before .before .before .before .before .before .taken-of .result .0 ≡ takes =
+    c .before .before .before .before .before .before .before .before .before .taken-of .ensures ∙ ap (min (claim .quantity .0)) (sym (megawatts-at (at .left) path))
+    in
+    let paid = c .before .before .before .before .before .before .before .price-at .ensures ∙ ap (λ (n : ℕ). cond (ltb 0 n) (claim .price .0) 0) taken in
+    let price = c .before .before .before .before .before .before .lower-of .ensures ∙ ap (lower (getD (at .prices) path (cents 0) .0)) paid in
+    let left-is = map-change (λ x. x .0) (at .left) path (megawatts 0) _ (λ n. n - takes) (ap (getD (at .left) path (megawatts 0) .0 -_) taken) in
+    let won-is = map-change (λ x. x .0) (at .won) (claim .bid) (megawatts 0) _ (λ n. n + takes) (ap (getD (at .won) (claim .bid) (megawatts 0) .0 +_) taken) in
+    let sold-is = map-change (λ x. x .0) (at .sold) path (megawatts 0) _ (λ n. n + takes) (ap (getD (at .sold) path (megawatts 0) .0 +_) taken) in
+    let prices-is = map-change (λ x. x .0) (at .prices) path (cents 0) _ (λ n. lower n (cond (ltb 0 takes) (claim .price .0) 0)) price in (
       search needs,
-      rw (c .lower-of .ensures, c .before .price-at .ensures, c .before .before .taken-of .ensures)
-          (one-awarded (turn p .loop .inv .1) (search needs) (start p .pre .0) (start p .pre .1 .1 .0) _ _ _ _ (e .0) (e .1 .0) (e .1 .1 .0) (e .1 .1 .1 .0) (path-below p)),
+      rw (left-is, won-is, sold-is, prices-is)
+          (one-awarded (at .inv .1) (search needs) (start p .pre .0) (start p .pre .1 .1 .0) _ _ _ _ (e .0) (e .1 .0) (e .1 .1 .0) (e .1 .1 .1 .0) (path-below p)),
     )
 
 returns : tie.Need-returns Inv-loop μ-loop
@@ -77,28 +103,28 @@ award-spec =
     (λ c. search needs)
     (λ c. search needs)
     claim-in-requires
-    (λ c. search needs)
+    (λ c. omega (arith, path-below (c .before .before)))
     (λ c. path-below (c .before .before))
+    (λ c. record { fits = omega (arith, bid-below (c .before .before .before)) })
+    (λ c. bid-below (c .before .before .before))
+    (λ c. omega (arith, path-below (c .before .before .before .before)))
+    (λ c. path-below (c .before .before .before .before))
     (λ c κs. search needs)
-    (λ c. search needs)
-    (λ c. path-below (c .before .before .before))
+    (λ c. omega (arith, path-below (c .before .before .before .before .before .before)))
+    (λ c. path-below (c .before .before .before .before .before .before))
     (λ c κs. search needs)
     (λ c κs. search needs)
-    (λ c. record { fits = omega (arith, bid-below (c .before .before .before .before .before)) })
-    (λ c. bid-below (c .before .before .before .before .before))
-    add-bid-won
-    (λ c. search needs)
-    (λ c. path-below (c .before .before .before .before .before))
-    add-path-sold
-    (λ c. omega (arith, c .before .before .taken-of .ensures))
-    (λ c. search needs)
-    (λ c. path-below (c .before .before .before .before .before))
-    (λ c. record { fits = omega (arith, bid-below (c .before .before .before .before .before)) })
-    (λ c. bid-below (c .before .before .before .before .before))
-    (λ c. search needs)
-    (λ c. path-below (c .before .before .before .before .before))
-    (λ c. search needs)
-    (λ c. path-below (c .before .before .before .before .before))
+    (λ c. omega (arith, c .before .before .before .before .before .taken-of .ensures))
+    add-won-now
+    add-sold-now
+    (λ c. omega (arith, path-below (c .before .before .before .before .before .before .before .before .before .before .before .before .before .before .before)))
+    (λ c. path-below (c .before .before .before .before .before .before .before .before .before .before .before .before .before .before .before))
+    (λ c. record { fits = omega (arith, bid-below (c .before .before .before .before .before .before .before .before .before .before .before .before .before .before .before)) })
+    (λ c. bid-below (c .before .before .before .before .before .before .before .before .before .before .before .before .before .before .before))
+    (λ c. omega (arith, path-below (c .before .before .before .before .before .before .before .before .before .before .before .before .before .before .before)))
+    (λ c. path-below (c .before .before .before .before .before .before .before .before .before .before .before .before .before .before .before))
+    (λ c. omega (arith, path-below (c .before .before .before .before .before .before .before .before .before .before .before .before .before .before .before)))
+    (λ c. path-below (c .before .before .before .before .before .before .before .before .before .before .before .before .before .before .before))
     (λ c. search needs)
     (λ c. search needs)
     loop-again

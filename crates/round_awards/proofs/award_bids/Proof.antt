@@ -1,6 +1,7 @@
 -- `order` leaves the claims of the admitted bids in order in the scratch, so the walk whose tables `award` returns is
 -- the rule's walk (`awardsOf`).
 use mathlib.Core.Path.{_∙_, ap}
+use Rattle.market.specs.Books.{inMegawatts}
 use Rattle.round_award_rules.specs.Awards.{walk, awardsOf}
 use Rattle.round_awards.specs.Tables.{wonTable, soldTable, priceTable}
 use borrow.Author.Needs.{needs}
@@ -14,7 +15,7 @@ returns : tie.Need-returns
 unfolding awardsOf
 returns c = let a = c .before .before .before .before .before .before .before .before .before .args in
     let order = c .before .before .before .before .order in
-    let is = ap (walk (a .offered)) (order .ensures .1 .1 .0) in
+    let is = ap (walk (inMegawatts (a .offered))) (order .ensures .1 .1 .0) in
     let e = c .award .ensures in
     (e .0 ∙ ap wonTable is, (e .1 .0 ∙ ap soldTable is, (e .1 .1 ∙ ap priceTable is, order .ensures .1 .0)))
 
