@@ -106,7 +106,7 @@ returns c = let s = c .before .before .before .before .before .before .before .b
     let write = c .before .before .before .before .before .write-answers .ensures in
     let count = add .ensures .0 ∙ ap (λ (l : List ℕ). b .entries + length (newEntries (periodOf (b .stage)) l bids)) (won s) in (
       ap₂ (λ (n : ℕ) (after : Book). record { answer = Bids n; book = after }) (worked s .count)
-      (c .book-with .ensures
+          (c .book-with .ensures
           ∙ ap (λ (l : List ℕ). bookWith b l (inMegawatts (award .sold)) (inCents (award .prices)) bids (add .result)) (won s)
           ∙ ap (λ (l : List ℕ). bookWith b (wonNow b bids) l (inCents (award .prices)) bids (add .result)) (sold s)
           ∙ ap₂ (λ (l : List ℕ) (n : ℕ). bookWith b (wonNow b bids) (soldNow b bids) l bids n) (prices s) count),

@@ -83,7 +83,7 @@ loop-again c = let h = c .before .before .before .before .before .before .before
     let value = c .before .before .before .before .before .before .before .before .bid-value .result .0 in
     let limit = getD (start p .args .t2) bidder (cents 0) .0 in
     let changes = map-change (λ x. x .0) (loop .used) bidder (cents 0) (c .before .used-after .result)
-        (λ n. cond (leb (n + value) limit) (n + value) n) (c .before .used-after .ensures)
+    (λ n. cond (leb (n + value) limit) (n + value) n) (c .before .used-after .ensures)
     in
     let is = ap (λ (m : Cents). m .0) (c .before .before .before .before .before .before .before .before .bid-value .ensures .0) in
     rw (c .bid-end .ensures, changes, c .before .before .mark-of .ensures, ← cents-at (loop .used) bidder, ← cents-at (start p .args .t2) bidder)

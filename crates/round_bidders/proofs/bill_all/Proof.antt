@@ -37,7 +37,7 @@ loop-again c = let a = c .before .before .before .before .before .args in
       search needs,
       ap (λ (l : List Bidder). set l (at .i) (c .bill .result)) (at .inv .1)
           ∙ ap (set (billedTo (a .t1) (inCents (a .t2)) (at .i)) (at .i))
-              (c .bill .ensures ∙ ap (billed (getD (a .t1) (at .i) noBidder)) (sym (cents-at (a .t2) (at .i))))
+          (c .bill .ensures ∙ ap (billed (getD (a .t1) (at .i) noBidder)) (sym (cents-at (a .t2) (at .i))))
           ∙ billed-next (a .t1) (inCents (a .t2)) (at .i),
     )
 

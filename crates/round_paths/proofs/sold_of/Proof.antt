@@ -43,7 +43,7 @@ loop-again c = let a = c .before .before .before .before .before .args in
       search needs,
       ap (λ (l : List Path). set l (at .i) (c .with-sold .result)) (at .inv .1)
           ∙ ap (set (soldTo (a .t1) (inMegawatts (a .t2)) (at .i)) (at .i))
-              (c .with-sold .ensures ∙ ap (withSold (getD (a .t1) (at .i) noPath)) (sym (megawatts-at (a .t2) (at .i))))
+          (c .with-sold .ensures ∙ ap (withSold (getD (a .t1) (at .i) noPath)) (sym (megawatts-at (a .t2) (at .i))))
           ∙ sold-next (a .t1) (inMegawatts (a .t2)) (at .i),
     )
 
