@@ -9,7 +9,7 @@ use borrow.Author.Tests.{leb-true}
 use Rattle.market.proofs.SoundLaws.{AtRound, at-round, bidder-made, bidder-sound, bidder-within}
 use Rattle.market.specs.Books.{heldOf, bidderOf, withBidder}
 use Rattle.market.specs.Limits.{bidderLimit, moneyLimit}
-use Rattle.market.specs.Sound.{roundOf, BidderBounds}
+use Rattle.market.specs.Sound.{roundOf, soundBidder, soundBook, BidderBounds}
 use Rattle.market.specs.declared.book.Bidder.{Bidder}
 use Rattle.market.specs.declared.book.Book.{Book}
 use Rattle.market.specs.declared.book.Entry.{Entry}
@@ -64,6 +64,16 @@ debited-held : (x : Bidder) (from : Funds) (amount : Cents) → amount .0 ≤ wi
 debited-held x Cash amount most = omega arith
 debited-held x Letter amount most = omega arith
 
+-- a bidder of a sound book is sound after a deposit for which there is room
+pub credited-sound :
+    (b : Book) (i : ℕ) (to : Funds) (amount : Cents) → soundBook b ≡ true → hasRoom (bidderOf b i) to amount ≡ true
+    → soundBidder (roundOf (b .stage)) (withDeposit (bidderOf b i) to amount) ≡ true
+credited-sound b i to amount sound room =
+    let round = roundOf (b .stage) in
+    let x = bidderOf b i in
+    bidder-made round (withDeposit x to amount) (credited-at round x to amount (at-round round x (bidder-sound b i sound)))
+    (credited-within x to amount (bidder-within b i sound) room)
+
 module _ (b : Book) (es : List Entry) (i : ℕ) (funds : Funds) (amount : Cents) (state : SoundState b es) where
   abbrev x : Bidder
   x = bidderOf b i
@@ -72,10 +82,7 @@ module _ (b : Book) (es : List Entry) (i : ℕ) (funds : Funds) (amount : Cents)
   round = roundOf (b .stage)
 
   deposit-keeps : hasRoom x funds amount ≡ true → SoundState (withBidder b i (withDeposit x funds amount)) es
-  deposit-keeps room =
-      bidder-kept b es i (withDeposit x funds amount) state
-      (bidder-made round (withDeposit x funds amount) (credited-at round x funds amount (at-round round x (bidder-sound b i (state .sound))))
-      (credited-within x funds amount (bidder-within b i (state .sound)) room))
+  deposit-keeps room = bidder-kept b es i (withDeposit x funds amount) state (credited-sound b i funds amount (state .sound) room)
 
   withdraw-keeps : amount .0 ≤ withdrawable x funds → SoundState (withBidder b i (debited x funds amount)) es
   withdraw-keeps most =

@@ -13,7 +13,7 @@ use Rattle.market.specs.Answers.{firstOf}
 use Rattle.market.specs.Books.{noBidder, withBidder, withAccount, withEntries}
 use Rattle.market.specs.Fresh.{freshRefusals, freshBook}
 use Rattle.market.specs.Limits.{bidderLimit, registerWords}
-use Rattle.market.specs.Sound.{roundOf, soundBidder, soundAccount}
+use Rattle.market.specs.Sound.{roundOf, soundBidder, soundAccount, soundBook}
 use Rattle.market.specs.declared.book.Bidder.{Bidder}
 use Rattle.market.specs.declared.book.Book.{Book}
 use Rattle.market.specs.declared.book.Entry.{Entry}
@@ -23,21 +23,24 @@ use Rattle.call_rules.specs.State.{SoundState, SoundMemory}
 
 -- ---- A state in which one part is replaced
 
--- a bidder, by a sound one
+-- a bidder, by a sound one: the book alone, and the state
+pub book-kept : (b : Book) (i : ℕ) (x : Bidder) → soundBook b ≡ true → soundBidder (roundOf (b .stage)) x ≡ true → soundBook (withBidder b i x) ≡ true
+book-kept b i x sound h =
+    let p = sound-parts b sound in
+    sound-made (withBidder b i x)
+    (record {
+      path-count = p .path-count;
+      entries = p .entries;
+      stage = p .stage;
+      paths = p .paths;
+      bidders = every-set (soundBidder (roundOf (b .stage))) (b .bidders) i x (p .bidders) h;
+      account = p .account;
+    })
+
 pub bidder-kept : (b : Book) (es : List Entry) (i : ℕ) (x : Bidder) → SoundState b es → soundBidder (roundOf (b .stage)) x ≡ true → SoundState (withBidder b i x) es
 bidder-kept b es i x s h =
-    let p = sound-parts b (s .sound) in
     record {
-      sound =
-          sound-made (withBidder b i x)
-          (record {
-            path-count = p .path-count;
-            entries = p .entries;
-            stage = p .stage;
-            paths = p .paths;
-            bidders = every-set (soundBidder (roundOf (b .stage))) (b .bidders) i x (p .bidders) h;
-            account = p .account;
-          });
+      sound = book-kept b i x (s .sound) h;
       entries = s .entries;
       counted = s .counted;
       bidders = length-set (b .bidders) i x ∙ s .bidders;

@@ -1,12 +1,13 @@
 -- The calls made with the lines in slots are the calls made with the lines of the sheet.
 use mathlib.Core.Path.{_≡_, refl, sym, _∙_, ap, ap₂}
 use mathlib.Core.Bool.{true}
-use mathlib.Core.List.{List, [], _∷_, _++_, map, map-append}
+use mathlib.Core.List.{List, _++_, map, map-append}
 use Prim.Native.Nat.{ℕ, zero, suc, _*_, _-_, _≤_}
 use lib.ListN.{length, take, replicate, length-map}
 use lib.Seq.{take-all, take-at, take-append-seam}
 use borrow.Author.Tests.{not-false}
 use Rattle.market.proofs.Every.{every-append, every-take, every-replicate}
+use Rattle.market.proofs.KindLaws.{map-take, map-replicate}
 use Rattle.market.proofs.SoundLaws.{count-within}
 use Rattle.market.proofs.Tables.{none-refused, none-hold}
 use Rattle.market.specs.Answers.{firstOf, answerNumber, answered}
@@ -20,11 +21,12 @@ use Rattle.market.specs.declared.book.Kind.{Kind}
 use Rattle.market.specs.declared.book.Period.{Period}
 use Rattle.market.specs.declared.book.Route.{Route}
 use Rattle.call_rules.specs.Steps.{outcomeOf}
+use Rattle.call_funding.specs.Deposits.{unlessRefused, andThen}
 use Rattle.call_open.specs.Open.{«open»}
 use Rattle.sheet_form.specs.Slots.{filled, noBidderLine, noPathLine, bidderRows, pathSlots}
 use Rattle.sheet_form.specs.declared.rows.BidderLine.{BidderLine}
 use Rattle.sheet_form.specs.declared.rows.PathLine.{PathLine}
-use Rattle.sheet_calls.specs.Calls.{unlessRefused, andThen, deposits, routeOf, routesOf, quantitiesOf, emptyRegister, opened}
+use Rattle.sheet_calls.specs.Calls.{deposits, routeOf, routesOf, quantitiesOf, emptyRegister, opened}
 use Rattle.sheet_calls.specs.CallSlots.{isListed, quantitiesIn, openedSlots}
 use Rattle.sheet_calls.proofs.SlotLaws.{quantities-length, quantities-append}
 
@@ -39,20 +41,11 @@ fresh-few routes n none =
 -- ---- Images of slots
 
 module _ {A B : Type 0} (f : A → B) where
-  pub map-take : (n : ℕ) (l : List A) → map f (take n l) ≡ take n (map f l)
-  map-take zero l = refl
-  map-take (suc n) [] = refl
-  map-take (suc n) (x ∷ l) = ap (f x ∷_) (map-take n l)
-
-  map-replicate : (n : ℕ) (x : A) → map f (replicate n x) ≡ replicate n (f x)
-  map-replicate zero x = refl
-  map-replicate (suc n) x = ap (f x ∷_) (map-replicate n x)
-
   map-filled : (slots : ℕ) (none : A) (l : List A) → map f (filled slots none l) ≡ filled slots (f none) (map f l)
   map-filled slots none l =
       map-append f (take slots l) (replicate (slots - length l) none)
-      ∙ ap₂ _++_ (map-take slots l)
-      (map-replicate (slots - length l) none ∙ ap (λ (n : ℕ). replicate (slots - n) (f none)) (sym (length-map l f)))
+      ∙ ap₂ _++_ (map-take f slots l)
+      (map-replicate f (slots - length l) none ∙ ap (λ (n : ℕ). replicate (slots - n) (f none)) (sym (length-map l f)))
 
 -- ---- As many slots as lines, or more
 

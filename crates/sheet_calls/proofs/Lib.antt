@@ -2,7 +2,6 @@
 -- Laws about the calls before the first round.
 pub mod QuantityLaws
 pub mod OpeningLaws
-pub mod DepositLaws
 pub mod KeepDeposits
 pub mod CallLaws
 pub mod SlotLaws

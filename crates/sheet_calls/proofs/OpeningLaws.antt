@@ -14,12 +14,13 @@ use Rattle.market.specs.declared.book.Kind.{Kind}
 use Rattle.market.specs.declared.book.Period.{Period}
 use Rattle.market.specs.declared.book.Route.{Route}
 use Rattle.call_rules.specs.Steps.{outcomeOf}
+use Rattle.call_funding.proofs.DepositLaws.{then-refused, then-next}
+use Rattle.call_funding.specs.Deposits.{andThen}
 use Rattle.call_open.specs.Open.{«open»}
 use Rattle.sheet_form.specs.declared.rows.BidderLine.{BidderLine}
 use Rattle.sheet_form.specs.declared.rows.PathRows.{PathRows}
-use Rattle.sheet_calls.specs.Calls.{andThen, deposits, routeOf, quantitiesOf, emptyRegister}
+use Rattle.sheet_calls.specs.Calls.{deposits, routeOf, quantitiesOf, emptyRegister}
 use Rattle.sheet_calls.specs.CallSlots.{openWith, openedSlots}
-use Rattle.sheet_calls.proofs.DepositLaws.{then-refused, then-next}
 use Rattle.sheet_calls.proofs.CallLaws.{fresh-few}
 
 -- ---- Open with the quantities of the paths counted

@@ -1,19 +1,21 @@
--- Slots that a loop fills from the front, as `routes` and `numbers` do, and how long the quantities of slots are.
+-- Slots that a loop fills from the front, as `routes`, `numbers` and `all_deposits` do, and how long the quantities of slots are.
 use mathlib.Core.Path.{_≡_, refl, sym, _∙_, ap}
+use mathlib.Core.Bool.{true}
 use mathlib.Core.List.{List, [], _∷_, _++_, map}
 use Prim.Native.Nat.{ℕ, _+_, _*_, _-_, _≤_, _<_}
 use native.Mathlib.Omega.{arith}
-use lib.ListN.{length, getD, set, replicate, length-map}
+use lib.ListN.{length, getD, set, replicate}
+use borrow.Author.Tests.{ltb-true}
+use Rattle.market.proofs.Every.{every-within}
 use Rattle.market.proofs.Filled.{filled, fill-next, all-filled}
-use Rattle.market.specs.Limits.{quantityWords}
+use Rattle.market.specs.Books.{every}
+use Rattle.market.specs.Limits.{bidderLimit, quantityWords}
+use Rattle.sheet_form.specs.declared.rows.BidderLine.{BidderLine}
 use Rattle.sheet_form.specs.declared.rows.PathLine.{PathLine}
 use Rattle.sheet_calls.specs.Calls.{quantitiesOf}
+use Rattle.sheet_calls.specs.CallSlots.{isListed}
 
 -- ---- One image in each slot
-
--- a list is as long as the list of the images of its elements
-pub as-long : (A B : Type 0) (f : A → B) (xs : List A) (n : ℕ) → length (map f xs) ≡ n → length xs ≡ n
-as-long A B f xs n long = sym (length-map xs f) ∙ long
 
 -- the images of the first `i` elements, and a blank in each place after them
 pub record FilledTo {A B : Type 0} (f : A → B) (xs : List A) (n : ℕ) (blank : B) (out : List B) (i : ℕ) : Type 0 where
@@ -41,6 +43,10 @@ module _ {A B : Type 0} (f : A → B) (xs : List A) (n : ℕ) (blank : B) where
         s .is
         ∙ ap (filled f xs n blank) (let e : i ≡ n = omega (arith, s .within) in e)
         ∙ all-filled f xs n blank long
+
+-- each line is that of a bidder that a book has
+pub line-listed : (lines : List BidderLine) (i : ℕ) (d : BidderLine) → i < length lines → every isListed lines ≡ true → getD lines i d .bidder < bidderLimit
+line-listed lines i d inside listed = ltb-true (getD lines i d .bidder) bidderLimit (every-within isListed lines i d inside listed)
 
 -- ---- Four words in each slot
 

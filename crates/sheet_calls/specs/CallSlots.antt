@@ -11,11 +11,12 @@ use Rattle.market.specs.declared.book.Book.{Book}
 use Rattle.market.specs.declared.book.Kind.{Kind}
 use Rattle.market.specs.declared.book.Period.{Period}
 use Rattle.call_rules.specs.Steps.{outcomeOf}
+use Rattle.call_funding.specs.Deposits.{andThen}
 use Rattle.call_open.specs.Open.{«open»}
 use Rattle.sheet_form.specs.declared.rows.BidderLine.{BidderLine}
 use Rattle.sheet_form.specs.declared.rows.PathLine.{PathLine}
 use Rattle.sheet_form.specs.declared.rows.PathRows.{PathRows}
-use Rattle.sheet_calls.specs.Calls.{andThen, deposits, routeOf, quantitiesOf, emptyRegister}
+use Rattle.sheet_calls.specs.Calls.{deposits, routeOf, quantitiesOf, emptyRegister}
 
 -- whether the line is that of a bidder that a book has
 abbrev pub isListed : BidderLine → Bool

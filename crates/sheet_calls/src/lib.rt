@@ -17,7 +17,7 @@ ghost use mathlib.Core.List.{map};
 ghost use Prim.Native.Nat.{_≤_};
 ghost use lib.ListN.{take};
 ghost use Rattle.market.specs.Books.{every};
-ghost use Rattle.market.specs.Limits.{bidderLimit, pathLimit};
+ghost use Rattle.market.specs.Limits.{pathLimit};
 ghost use Rattle.sheet_calls.specs.CallSlots.{isListed, openWith, openedSlots};
 
 // Open with an empty register and the quantities of as many paths as are counted.
@@ -34,7 +34,6 @@ fn open_with(book: Book, kind: Kind, period: Period, paths: PathRows) -> Outcome
 
 // Fresh book, deposits, open; the first refusal ends the calls.
 pub fn opened(kind: Kind, period: Period, bidders: BidderRows, paths: PathRows) -> Outcome
-    requires { ⌜ bidders .count ≤ bidderLimit ⌝ }
     requires { ⌜ every isListed (bidders .lines) ≡ true ⌝ }
     ensures { λ r. ⌜ r ≡ openedSlots kind period (take (bidders .count) (bidders .lines)) paths ⌝ }
 {

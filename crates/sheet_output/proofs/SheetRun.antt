@@ -11,10 +11,13 @@ use Rattle.market.specs.Books.{dayNumber, every}
 use Rattle.market.specs.Fresh.{fresh}
 use Rattle.market.specs.Limits.{bidderLimit}
 use Rattle.market.specs.declared.answer.Outcome.{Outcome}
+use Rattle.market.specs.declared.book.Book.{Book}
 use Rattle.market.specs.declared.book.Kind.{Kind}
 use Rattle.market.specs.declared.book.Kind.the-variants.{Short, Long}
 use Rattle.market.specs.declared.book.Period.{Period}
 use Rattle.text_numbers.specs.Put.{putAt}
+use Rattle.call_funding.proofs.KeptDeposits.{next-keeps}
+use Rattle.call_funding.specs.Deposits.{unlessRefused, andThen}
 use Rattle.call_open.specs.Open.{«open»}
 use Rattle.call_open.proofs.OpenLaws.{open-lawful}
 use Rattle.call_rules.proofs.StepLaws.{memory-kept}
@@ -32,8 +35,8 @@ use Rattle.sheet_form.specs.Words.{sectionWords}
 use Rattle.sheet_form.specs.declared.form.Form.the-variants.{Right}
 use Rattle.sheet_form.specs.declared.rows.BidderLine.{BidderLine}
 use Rattle.sheet_form.specs.declared.rows.PathLine.{PathLine}
-use Rattle.sheet_calls.proofs.KeepDeposits.{next-keeps, deposits-keep, fresh-keeps}
-use Rattle.sheet_calls.specs.Calls.{unlessRefused, andThen, deposits, routesOf, quantitiesOf, emptyRegister, opened}
+use Rattle.sheet_calls.proofs.KeepDeposits.{deposits-keep, fresh-keeps}
+use Rattle.sheet_calls.specs.Calls.{deposits, routesOf, quantitiesOf, emptyRegister, opened}
 use Rattle.sheet_calls.specs.CallSlots.{isListed}
 use Rattle.award_sheet_parts.specs.AwardSheet.{isBidder, refusedText}
 use Rattle.sheet_rounds.specs.Rounds.{Progress, roundsFrom, begun, ended, sheetRound, outputFrom}
@@ -63,7 +66,8 @@ module _ (kind : Kind) (period : Period) (bidders : List BidderLine) (paths : Li
   opened-with : (n : ℕ) → n ≡ answerNumber (made .answer) → answerNumber (unlessRefused n made rest .answer) ≡ 0 → SoundMemory (unlessRefused n made rest .book) emptyRegister
   opened-with zero is none =
       let state = deposits-keep (made .book) emptyRegister bidders (fresh-keeps (routesOf paths) (length paths) (sym is)) in
-      next-keeps (answerNumber (funded .answer)) funded (outcomeOf («open» kind period (quantitiesOf paths)) (funded .book) emptyRegister) emptyRegister state
+      next-keeps (λ (b : Book). SoundMemory b emptyRegister) (answerNumber (funded .answer)) funded
+      (outcomeOf («open» kind period (quantitiesOf paths)) (funded .book) emptyRegister) state
       (open-keeps state)
   opened-with (suc n) is none = absurd (let bad : ⊥ = omega (arith, is, none) in bad)
 

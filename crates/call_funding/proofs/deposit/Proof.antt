@@ -1,21 +1,16 @@
--- An unsound book makes the table's first row hold, so the refusal is 2 whatever the other rows say (refuses). A sound
--- one is what deposit_sound requires, and that call already ensures the rule.
+-- An unsound book makes the table's first row hold, so the refusal is 2 whatever the other rows say (unsound-refused). A
+-- sound one is what deposit_sound requires, and that call already ensures the rule.
 use mathlib.Core.Path.{sym, _∙_}
-use native.Mathlib.Omega.{arith}
 use borrow.Author.Tests.{not-true, not-false}
-use Rattle.call_rules.proofs.Decides.{refuses}
-use Rattle.call_rules.specs.Steps.{noRegister, refusalOf}
-use Rattle.call_funding.specs.Deposit.{deposit}
+use Rattle.call_funding.proofs.KeptDeposits.{unsound-refused}
 use borrow.Author.Needs.{needs}
 use Rattle.call_funding.proofs.deposit.Statement.{statement}
 use Rattle.call_funding.proofs.deposit.Tie as tie
 
 returns : tie.Need-returns
-unfolding refusalOf deposit
 returns c =
     let a = c .before .before .args in
-    refuses (deposit (a .bidder) (a .to) (a .amount)) (a .book) noRegister 2
-    (rw (sym (c .before .sound-book .ensures) ∙ not-true _ (c .if1 .taken))) (λ e. omega (arith, e))
+    unsound-refused (a .book) (sym (c .before .sound-book .ensures) ∙ not-true _ (c .if1 .taken)) (a .bidder) (a .to) (a .amount)
 
 deposit-sound-requires : tie.Need-deposit-sound-requires
 deposit-sound-requires c κs = sym (c .before .sound-book .ensures) ∙ not-false _ (c .if1 .left)

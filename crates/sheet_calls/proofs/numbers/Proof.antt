@@ -8,8 +8,7 @@ use mathlib.Core.Path.{refl}
 use Rattle.market.specs.Limits.{bidderLimit}
 use Rattle.sheet_form.specs.Slots.{noBidderLine}
 use Rattle.sheet_form.specs.declared.rows.BidderLine.{BidderLine}
-use Rattle.sheet_calls.proofs.DepositLaws.{line-listed}
-use Rattle.sheet_calls.proofs.SlotLaws.{FilledTo, none-filled, one-filled, every-filled}
+use Rattle.sheet_calls.proofs.SlotLaws.{FilledTo, none-filled, one-filled, every-filled, line-listed}
 use Rattle.sheet_calls.proofs.numbers.Statement.{statement}
 use Rattle.sheet_calls.proofs.numbers.Tie as tie
 

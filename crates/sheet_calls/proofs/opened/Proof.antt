@@ -1,12 +1,6 @@
 -- By cases on the refusals: a refused fresh book (`book-refused`) or refused deposits (`deposits-refused`) are the
--- answer; else open follows (`deposits-made`). That `fresh` answered gives the sound book and the few paths that the
--- later calls require.
-use mathlib.Core.Path.{sym, _∙_, ap, subst}
-use Rattle.market.specs.Answers.{answerNumber}
-use Rattle.market.specs.declared.answer.Outcome.{Outcome}
-use Rattle.call_rules.specs.State.{SoundMemory}
-use Rattle.sheet_calls.specs.Calls.{emptyRegister}
-use Rattle.sheet_calls.proofs.KeepDeposits.{fresh-keeps}
+-- answer; else open follows (`deposits-made`). That `fresh` answered gives the few paths that open requires.
+use mathlib.Core.Path.{_∙_}
 use lib.ListN.{take}
 use Rattle.sheet_calls.proofs.OpeningLaws.{book-refused, few-paths, deposits-refused, deposits-made}
 use borrow.Author.Needs.{needs}
@@ -21,14 +15,6 @@ returns c =
     let bidders = take (a .bidders .count) (a .bidders .lines) in
     book-refused (a .kind) (a .period) bidders (a .paths) (routes .result) (routes .ensures) (made .result) (made .ensures)
     (c .before .number .result) (c .before .number .ensures) (c .if1 .taken)
-
-deposits-requires : tie.Need-deposits-requires
-deposits-requires c κs =
-    let start = c .before .before .before .before .before in
-    let made = c .before .before .fresh in
-    let routes = c .before .before .before .routes in
-    let taken = ap (λ (o : Outcome). answerNumber (o .answer)) (sym (made .ensures)) ∙ sym (c .before .number .ensures) ∙ c .if1 .left in
-    (start .pre .0, (start .pre .1, subst (λ (o : Outcome). SoundMemory (o .book) emptyRegister) (sym (made .ensures)) (fresh-keeps (routes .result) (start .args .paths .count) taken)))
 
 returns-2 : tie.Need-returns-2
 returns-2 c =
@@ -68,7 +54,7 @@ opened-spec =
     (λ c κs. search needs)
     (λ c κs. search needs)
     returns
-    deposits-requires
+    (λ c κs. c .before .before .before .before .before .pre)
     (λ c κs. search needs)
     returns-2
     open-with-requires

@@ -72,7 +72,7 @@ period-in-requires : tie.Need-period-in-requires
 period-in-requires c κs = let p = c .before .before .before .before .before .pre in days-inside (p .0) (p .1 .0)
 
 opened-requires : tie.Need-opened-requires
-opened-requires c κs = (rows-few (read c), all-rows (read c))
+opened-requires c κs = all-rows (read c)
 
 refused-requires : tie.Need-refused-requires
 refused-requires c κs = s (c .before .before .before .before) .pre .1 .1

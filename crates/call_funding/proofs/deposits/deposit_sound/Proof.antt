@@ -13,8 +13,8 @@ use Rattle.call_rules.specs.Steps.{noRegister, refusalOf}
 use Rattle.call_funding.proofs.Cleared.{deposit-cleared}
 use Rattle.call_funding.specs.Deposit.{hasRoom, withDeposit, depositRefusals, deposit}
 use borrow.Author.Needs.{needs}
-use Rattle.call_funding.proofs.deposit_sound.Statement.{statement}
-use Rattle.call_funding.proofs.deposit_sound.Tie as tie
+use Rattle.call_funding.proofs.deposits.deposit_sound.Statement.{statement}
+use Rattle.call_funding.proofs.deposits.deposit_sound.Tie as tie
 
 -- the number that was worked out is that of the whole table
 number :
