@@ -3,7 +3,7 @@ use mathlib.Core.Path.{_≡_, refl, sym, _∙_, ap}
 use mathlib.Core.Bool.{Bool, true}
 use mathlib.Core.List.{List, [], _∷_, map}
 use Prim.Native.Nat.{ℕ, zero, suc, _+_}
-use lib.ListN.{set, replicate, take, getD, List·getD-map}
+use lib.ListN.{length, set, replicate, take, getD, length-map, List·getD-map}
 use Rattle.market.proofs.Every.{every-at-any}
 use Rattle.market.specs.Books.{cents, megawatts, inCents, inMegawatts, every}
 use Rattle.market.specs.declared.units.Cents.{Cents}
@@ -36,6 +36,14 @@ pub map-change :
     {A : Type 0} (f : A → ℕ) (l : List A) (i : ℕ) (d x : A) (g : ℕ → ℕ) → f x ≡ g (f (getD l i d))
     → map f (set l i x) ≡ set (map f l) i (g (getD (map f l) i (f d)))
 map-change f l i d x g e = map-set f l i x ∙ ap (set (map f l) i) (e ∙ ap g (sym (List·getD-map f l i d)))
+
+-- cents added to one of a list of amounts
+pub cents-added : (l : List Cents) (i more : ℕ) → inCents (set l i (cents (getD l i (cents 0) .0 + more))) ≡ set (inCents l) i (getD (inCents l) i 0 + more)
+cents-added l i more = map-change (λ x. x .0) l i (cents 0) (cents (getD l i (cents 0) .0 + more)) (_+ more) refl
+
+-- a list of amounts has as many numbers as amounts
+pub numbers-long : (l : List Cents) (n : ℕ) → length l ≡ n → length (inCents l) ≡ n
+numbers-long l n long = length-map l (λ (x : Cents). x .0) ∙ long
 
 -- where every number of a list passes a test, so does that of what is read at any index; past the end it is the default's
 pub number-at-any : {A : Type 0} (f : A → ℕ) (test : ℕ → Bool) (l : List A) (i : ℕ) (d : A) → every test (map f l) ≡ true → test (f d) ≡ true → test (f (getD l i d)) ≡ true

@@ -6,10 +6,9 @@ use mathlib.Core.Path.{_≡_, refl, sym, _∙_, ap, ap₂}
 use mathlib.Core.List.{List, _++_}
 use Prim.Native.Nat.{ℕ, _-_, _≤_}
 use lib.ListN.{length, take, drop, set}
-use Rattle.market.proofs.KindLaws.{cents-at}
+use Rattle.market.proofs.KindLaws.{cents-at, numbers-long}
 use Rattle.market.specs.Books.{inCents}
 use Rattle.market.specs.Limits.{bidderLimit}
-use Rattle.pool_sharing.proofs.Loops.{numbers-long}
 use Rattle.lent_lists.proofs.Written.{write-next, all-written}
 use Rattle.lent_lists.proofs.write_amounts.Statement.{statement}
 use Rattle.lent_lists.proofs.write_amounts.Tie as tie

@@ -6,11 +6,11 @@ use mathlib.Core.Path.{_≡_, _∙_, ap}
 use mathlib.Core.List.{List}
 use lib.ListN.{length, getD}
 use native.Mathlib.Omega.{arith}
-use Rattle.market.proofs.KindLaws.{map-set, cents-at}
+use Rattle.market.proofs.KindLaws.{map-set, cents-at, numbers-long}
 use Rattle.market.specs.Books.{cents, inCents}
 use Rattle.market.specs.Limits.{bidderLimit}
 use Rattle.market.specs.declared.units.Cents.{Cents}
-use Rattle.pool_sharing.proofs.Loops.{stored-next, numbers-long}
+use Rattle.pool_sharing.proofs.Loops.{stored-next}
 use Rattle.pool_sharing.proofs.Totals.{total-at}
 use Rattle.pool_columns.proofs.Together.{all-together}
 use Rattle.pool_columns.proofs.add_shares.Statement.{statement}

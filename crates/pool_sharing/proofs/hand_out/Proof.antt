@@ -6,12 +6,12 @@ use Prim.Native.Nat.{_+_, _-_, _≤_}
 use mathlib.Core.Path.{_≡_, ap}
 use lib.ListN.{length}
 use native.Mathlib.Omega.{arith}
-use Rattle.market.proofs.KindLaws.{cents-at}
+use Rattle.market.proofs.KindLaws.{cents-at, numbers-long, cents-added}
 use Rattle.market.specs.Books.{inCents}
 use Rattle.market.specs.Limits.{bidderLimit, poolLimit}
 use Rattle.pool_sharing.proofs.HandOut.{one-more-total}
 use Rattle.pool_sharing.proofs.Totals.{total-at}
-use Rattle.pool_sharing.proofs.Loops.{numbers-long, cents-added, Handed, handed-start, handed-next, handed-all}
+use Rattle.pool_sharing.proofs.Loops.{Handed, handed-start, handed-next, handed-all}
 use Rattle.pool_sharing.specs.Sharing.{total}
 use Rattle.pool_sharing.proofs.hand_out.Statement.{statement}
 use Rattle.pool_sharing.proofs.hand_out.Tie as tie

@@ -6,11 +6,11 @@ use mathlib.Core.List.{List}
 use Prim.Native.Nat.{ℕ, _+_, _-_, _≤_}
 use native.Mathlib.Omega.{arith}
 use lib.ListN.{getD}
-use Rattle.market.proofs.KindLaws.{cents-at}
+use Rattle.market.proofs.KindLaws.{cents-at, numbers-long}
 use Rattle.market.specs.Books.{cents, inCents}
 use Rattle.market.specs.Limits.{bidderLimit}
 use Rattle.market.specs.declared.units.Cents.{Cents}
-use Rattle.pool_sharing.proofs.Loops.{numbers-long, Summed, summed-next, summed-all}
+use Rattle.pool_sharing.proofs.Loops.{Summed, summed-next, summed-all}
 use Rattle.pool_sharing.proofs.shares_total.Statement.{statement}
 use Rattle.pool_sharing.proofs.shares_total.Tie as tie
 

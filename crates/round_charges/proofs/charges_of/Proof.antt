@@ -6,9 +6,9 @@ use borrow.Author.Needs.{needs}
 use native.Mathlib.Omega.{arith}
 use mathlib.Core.Bool.{true}
 use mathlib.Core.List.{List}
-use Prim.Native.Nat.{ℕ, _+_, _*_, _-_, _≤_, _<_}
+use Prim.Native.Nat.{ℕ, _*_, _-_, _≤_, _<_}
 use lib.ListN.{length}
-use Rattle.market.proofs.KindLaws.{map-change, cents-at, megawatts-at, number-at-any}
+use Rattle.market.proofs.KindLaws.{cents-added, cents-at, megawatts-at, number-at-any}
 use Rattle.market.specs.Books.{cents, megawatts, inCents, inMegawatts}
 use Rattle.market.specs.Limits.{pathLimit, bidLimit, bidderLimit}
 use Rattle.market.specs.Sound.{soundQuantity}
@@ -94,7 +94,7 @@ loop-again c = let h = c .before .before .before .before .before .before .before
     let won = megawatts-at (a .t2) (loop .k) in
     let is = ap (λ (m : Cents). m .0) (bill .0) ∙ ap₂ _*_ (sym price) (sym won) in
     let more = c .before .before .before .before .charge .result .0 in
-    rw (c .bid-end .ensures, map-change (λ x. x .0) (loop .charges) (h .header-at .result .bidder) (cents 0) _ (_+ more) refl)
+    rw (c .bid-end .ensures, cents-added (loop .charges) (h .header-at .result .bidder) more)
     (one-charged (loop .inv) (search needs) _ _ _ (bidder-is h) (path-is h) is (bill .1))
 
 returns : tie.Need-returns Inv-loop μ-loop

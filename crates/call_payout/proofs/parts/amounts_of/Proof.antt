@@ -9,14 +9,13 @@ use Prim.Native.Nat.{ℕ, _+_, _*_, _-_, _≤_, _<_}
 use native.Mathlib.Omega.{arith}
 use lib.ListN.{length, getD, replicate}
 use Rattle.market.proofs.SoundLaws.{zone-within, sound-parts, count-within}
-use Rattle.market.proofs.KindLaws.{cents-at}
+use Rattle.market.proofs.KindLaws.{cents-at, numbers-long, cents-added}
 use Rattle.market.specs.Books.{cents, inCents, credit}
 use Rattle.market.specs.Limits.{bidderLimit, pathLimit, quantityLimit, zonePriceLimit, accountLimit}
 use Rattle.market.specs.declared.book.Entry.{Entry}
 use Rattle.market.specs.declared.units.Cents.{Cents}
 use Rattle.register.proofs.EntryLaws.{EntryBounds}
 use Rattle.register.specs.Words.{entryAt, entriesOf}
-use Rattle.pool_sharing.proofs.Loops.{numbers-long, cents-added}
 use Rattle.pool_sharing.specs.Sharing.{total}
 use Rattle.call_payout.proofs.EarningLaws.{credited-more, credit-total}
 use Rattle.call_payout.proofs.RateLaws.{earnedBy, bounds, rate-low, credits-same, sum-fits, amount-fits}
