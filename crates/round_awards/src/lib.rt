@@ -2,17 +2,16 @@
 use market::engine::Engine;
 ghost use mathlib.Core.Path.{_≡_};
 ghost use mathlib.Core.Bool.{true, cond};
-ghost use mathlib.Core.List.{map};
 ghost use Prim.Native.Nat.{_≤_, min};
 ghost use lib.Dec.{ltb};
-ghost use lib.ListN.{length, take};
+ghost use lib.ListN.{length};
 ghost use Rattle.market.specs.Books.{every};
 ghost use Rattle.market.specs.Limits.{bidLimit, scratchWords};
 ghost use Rattle.market.specs.Sound.{soundQuantity};
-ghost use Rattle.round_award_rules.specs.Awards.{lower, walk, awardsOf};
+ghost use Rattle.round_award_rules.specs.Awards.{inOrder, lower, walk, awardsOf};
 ghost use Rattle.round_bids.specs.BidRefusals.{BidList};
 ghost use Rattle.round_bids.specs.Bids.{bidsOf};
-ghost use Rattle.round_claims.specs.Packed.{claimIn, claimFits};
+ghost use Rattle.round_order.specs.Tree.{claimsLeft, Tree};
 ghost use Rattle.round_awards.specs.Tables.{wonTable, soldTable, priceTable};
 
 // The MW that each bid won, the MW sold of each path, and its clearing price, 0 where there is none.
@@ -58,23 +57,29 @@ fn price_at(taken: u32, price: u64) -> u64
     0
 }
 
-// The awards of the laminations in the first `claims` words of `order`, which are in order. `offered` has what the round
-// offers of each path, and `left` what is left of it.
-fn award(words: &[u32], order: &[u32], claims: usize, offered: [u32; Engine::PATHS]) -> Awarded
-    requires { ⌜ claims ≤ length (now order) ⌝ }
-    requires { ⌜ claims ≤ scratchWords ⌝ }
-    requires { ⌜ every (claimFits (now words)) (take claims (now order)) ≡ true ⌝ }
+// The awards of the laminations in a tree, in order; `first` has the one that comes first. `offered` has what the round offers of
+// each path, and `left` what is left of it.
+fn award(
+    words: &[u32],
+    count: usize,
+    first: u32,
+    offered: [u32; Engine::PATHS],
+    tree: &mut [u32],
+) -> Awarded
+    requires { ⌜ Tree (now words) count (now tree) first ⌝ }
+    requires { ⌜ length (inOrder (claimsLeft (now words) count (now tree))) ≤ scratchWords ⌝ }
     requires { ⌜ every soundQuantity offered ≡ true ⌝ }
-    ensures won { λ r. ⌜ r .won ≡ wonTable (walk offered (map (claimIn (now (words .entry))) (take claims (now (order .entry))))) ⌝ }
-    ensures sold { λ r. ⌜ r .sold ≡ soldTable (walk offered (map (claimIn (now (words .entry))) (take claims (now (order .entry))))) ⌝ }
-    ensures prices { λ r. ⌜ r .prices ≡ priceTable (walk offered (map (claimIn (now (words .entry))) (take claims (now (order .entry))))) ⌝ }
+    ensures won { λ r. ⌜ r .won ≡ wonTable (walk offered (inOrder (claimsLeft (now (words .entry)) count (now (tree .entry))))) ⌝ }
+    ensures sold { λ r. ⌜ r .sold ≡ soldTable (walk offered (inOrder (claimsLeft (now (words .entry)) count (now (tree .entry))))) ⌝ }
+    ensures prices { λ r. ⌜ r .prices ≡ priceTable (walk offered (inOrder (claimsLeft (now (words .entry)) count (now (tree .entry))))) ⌝ }
 {
     let mut left = offered;
     let mut won = [0; Engine::BIDS];
     let mut sold = [0; Engine::PATHS];
     let mut prices = [0; Engine::PATHS];
-    for i in 0..claims {
-        let claim = round_claims::claim_in(words, order[i]);
+    let mut word = first;
+    while word != 0 {
+        let claim = round_claims::claim_in(words, word);
         let quantity = claim.quantity;
         let price = claim.price;
         let bid = claim.bid;
@@ -88,6 +93,7 @@ fn award(words: &[u32], order: &[u32], claims: usize, offered: [u32; Engine::PAT
         won[bid] = bid_won;
         sold[path] = path_sold;
         prices[path] = lowest;
+        word = round_order::next(words, count, word, tree);
     }
     Awarded { won, sold, prices }
 }
@@ -110,6 +116,6 @@ pub fn award_bids(
     ensures prices { λ r. ⌜ r .prices ≡ priceTable (awardsOf offered (bidsOf (now (words .entry))) (now (marks .entry))) ⌝ }
     ensures scratch { λ r. ⌜ length (now (scratch .exit)) ≡ length (now (scratch .entry)) ⌝ }
 {
-    let claims = round_order::order(words, marks, count, scratch);
-    award(words, scratch, claims, offered)
+    let first = round_order::start(words, marks, count, scratch);
+    award(words, count, first, offered, scratch)
 }
