@@ -47,7 +47,7 @@ pub fn settle(
             book,
         };
     }
-    lent_lists::write_amounts(pool_columns::shares_of(total.0, columns), shares);
+    lent_lists::write_amounts(pool_columns::shares_of(total, columns), shares);
     Outcome {
         answer: Answer::Done,
         book: parts::moved(flow, book, total),

@@ -68,7 +68,7 @@ pub fn refusal(flow: Flow, book: Book, total: Cents, columns: Columns) -> u32
     if number != Refusal::NONE {
         return number;
     }
-    pool_columns::refusal(total.0, columns)
+    pool_columns::refusal(total, columns)
 }
 
 // The book after a total is disbursed or recovered.

@@ -6,7 +6,6 @@ use market::answer::Outcome;
 use market::answer::Refusal;
 use market::book::Book;
 use market::engine::Engine;
-use market::units::Cents;
 use market::units::Day;
 ghost use mathlib.Core.Path.{_≡_};
 ghost use mathlib.Core.List.{_++_};
@@ -77,8 +76,7 @@ pub fn payout(
         };
     }
     let sums = parts::amounts_of(book, words, day, failed, prices);
-    let account = book.account;
-    let after = book_account::minus(account, Cents(sums.total));
+    let after = book_account::minus(book.account, sums.total);
     if !book_account::sound(after) {
         return Outcome {
             answer: Answer::Refused(Refusal::ACCOUNT),

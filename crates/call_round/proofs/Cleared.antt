@@ -105,7 +105,7 @@ module _ (b : Book) (words bidWords answers results scratch : List ℕ) where
       let rows = listRefusals (b .«path_count») bidWords in
       let parts = neither-holds (shortRoundLists answers results scratch ++ registerRefusals b words) (deskRefusals b bidWords ++ rows) refl h in
       let desk = desk-cleared b bidWords rows (parts .1) in
-      record { lent = lent-cleared (parts .0); is-open = desk .0; short = desk .1; clear = desk .2 }
+      record { lent = lent-cleared (parts .0); is-open = desk .0; list = record { short = desk .1; clear = desk .2 } }
 
   -- each row before 23 gives a number
   pub early-numbered : every numbered (earlyRefusals b words bidWords answers results scratch) ≡ true
@@ -118,7 +118,7 @@ module _ (b : Book) (words bidWords answers results scratch : List ℕ) where
       let early = early-cleared (parts .0) in
       record {
         early = early;
-        right = bids-right (b .«path_count») bidWords (early .clear);
-        encodes = encodes-back (b .«path_count») bidWords (early .clear);
+        right = bids-right (b .«path_count») bidWords (early .list .clear);
+        encodes = encodes-back (b .«path_count») bidWords (early .list .clear);
         room = winners-fit b bidWords (parts .1);
       }

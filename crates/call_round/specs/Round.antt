@@ -8,6 +8,7 @@ use Rattle.market.specs.Answers.{Row, _gives_}
 use Rattle.market.specs.Limits.{entryLimit, bidListWords, bidAnswerWords, pathAnswerWords, scratchWords}
 use Rattle.market.specs.Sound.{isIdle, roundOf, kindOf, periodOf}
 use Rattle.market.specs.declared.answer.Answer.the-variants.{Bids}
+use Rattle.market.specs.declared.answer.Outcome.{Outcome}
 use Rattle.market.specs.declared.book.Book.{Book}
 use Rattle.market.specs.declared.book.Entry.{Entry}
 use Rattle.register.specs.Refusals.{registerRefusals}
@@ -112,7 +113,11 @@ abbrev pub bookAfter : Book → List Bid → Book
 bookAfter b bids =
     bookWith b (wonNow b bids) (soldNow b bids) (pricesNow b bids) bids (b .entries + length (entriesNow b bids))
 
--- "The answer carries the number of bids."; "Words past the last bid or path stay."; "the scratch, which may hold any words after
+-- "The answer carries the number of bids."
+abbrev pub roundOutcome : Book → List Bid → Outcome
+roundOutcome b bids = record { answer = Bids (length bids); book = bookAfter b bids }
+
+-- "Words past the last bid or path stay."; "the scratch, which may hold any words after
 -- an answered round"; and no money moves
 unfoldable pub round : List ℕ → List ℕ → List ℕ → List ℕ → Rule
 round bidWords answers results scratch =
@@ -124,7 +129,7 @@ round bidWords answers results scratch =
             lent = shortRoundLists answers results scratch;
             register = changed (es ++ entriesNow b bids);
             own = roundRefusals b bidWords;
-            outcome = record { answer = Bids (length bids); book = bookAfter b bids };
+            outcome = roundOutcome b bids;
             fronts =
                 record {
                   amounts = kept;

@@ -8,51 +8,57 @@ use market::answer::Answer;
 use market::answer::Outcome;
 use market::answer::Refusal;
 use market::book::Book;
+use market::engine::Engine;
+use round_awards::Awarded;
 use worked::Worked;
 ghost use mathlib.Core.Path.{_≡_};
 ghost use mathlib.Core.List.{_++_};
 ghost use Prim.Native.Nat.{_+_, _≤_};
 ghost use lib.ListN.{length};
-ghost use Rattle.market.specs.Limits.{entryLimit};
+ghost use Rattle.market.specs.Limits.{entryLimit, bidAnswerWords, pathAnswerWords};
 ghost use Rattle.round_bids.specs.Bids.{bidsOf};
 ghost use Rattle.market.specs.Books.{withFront};
-ghost use Rattle.register.specs.Refusals.{countedEntries};
+ghost use Rattle.register.specs.Refusals.{countedEntries, LentRegister};
 ghost use Rattle.register.specs.Words.{entriesWritten};
 ghost use Rattle.call_rules.specs.Steps.{outcomeOf, wordsAfter, toAnswers, toResults, listAfter, ScratchAfter};
-ghost use Rattle.call_round.specs.Ready.{Early, WorkedOut};
+ghost use Rattle.call_round.specs.Ready.{RightList, WorkedOut, AwardedOut};
 ghost use Rattle.call_round.specs.Round as rules;
 
-// The round itself, where nothing refuses it: the winners' entries, the answers, and the book after it.
+// The round with these awards, where nothing refuses it: the winners' entries, the answers, and the book after it.
 fn answered(
     book: Book,
     words: &mut [u32],
     bids: &[u32],
     worked: Worked,
+    awarded: Awarded,
     answers: &mut [u64],
     results: &mut [u64],
-    scratch: &mut [u32],
-) -> Book
-    requires { ⌜ Early book (now words) (now bids) (now answers) (now results) (now scratch) ⌝ }
+) -> Outcome
+    requires { ⌜ LentRegister book (now words) ⌝ }
+    requires { ⌜ bidAnswerWords ≤ length (now answers) ⌝ }
+    requires { ⌜ pathAnswerWords ≤ length (now results) ⌝ }
+    requires { ⌜ RightList book (now bids) ⌝ }
     requires { ⌜ WorkedOut book (now bids) worked ⌝ }
+    requires { ⌜ AwardedOut worked (now bids) awarded ⌝ }
     requires { ⌜ book .entries + length (rules.entriesNow book (bidsOf (now bids))) ≤ entryLimit ⌝ }
-    ensures book { λ r. ⌜ r ≡ rules.bookAfter book (bidsOf (now (bids .entry))) ⌝ }
+    ensures outcome { λ r. ⌜ r ≡ rules.roundOutcome book (bidsOf (now (bids .entry))) ⌝ }
     ensures register { λ r. ⌜ now (words .exit)
         ≡ entriesWritten (now (words .entry)) (countedEntries book (now (words .entry)) ++ rules.entriesNow book (bidsOf (now (bids .entry)))) ⌝ }
     ensures bids { λ r. ⌜ now (answers .exit) ≡ withFront (rules.bidAnswersNow book (bidsOf (now (bids .entry)))) (now (answers .entry)) ⌝ }
     ensures paths { λ r. ⌜ now (results .exit) ≡ withFront (rules.pathAnswersNow book (bidsOf (now (bids .entry)))) (now (results .entry)) ⌝ }
-    ensures scratch { λ r. ⌜ length (now (scratch .exit)) ≡ length (now (scratch .entry)) ⌝ }
 {
-    let marks = worked.marks;
-    let offered = worked.offered;
-    let awarded = round_awards::award_bids(bids, &marks, worked.bids, offered, scratch);
     let count = effect::add_winners(book, bids, awarded, words);
-    effect::write_answers(book, bids, worked, awarded, answers, results);
-    effect::book_with(book, bids, awarded, count)
+    effect::write_answers(book.path_count, bids, worked, awarded, answers, results);
+    Outcome {
+        answer: Answer::Bids(worked.bids),
+        book: effect::book_with(book, bids, awarded, count),
+    }
 }
 
 // A round of the open auction. `words` is the register, `bids` the list of bids, `answers` and `results` the lists for the
 // answers of bids and paths, and `scratch` where the laminations are put in order. Nothing that is lent is touched before it
-// is known that nothing is refused; after an answered round the scratch may hold any words.
+// is known that nothing is refused: where the register has room for every bid the awards are worked out in the scratch, and
+// otherwise apart from it. After an answered round the scratch may hold any words.
 pub fn round(
     book: Book,
     words: &mut [u32],
@@ -85,16 +91,17 @@ pub fn round(
         };
     }
     let worked = worked::work_out(book, bids);
-    if !worked::has_room(book, bids, worked) {
+    if worked.bids <= Engine::ENTRIES - book.entries {
+        let awarded = worked::award(bids, worked, scratch);
+        return answered(book, words, bids, worked, awarded, answers, results);
+    }
+    let awarded = worked::award_apart(bids, worked);
+    let won = awarded.won;
+    if !round_entries::has_room(book.entries, won, worked.bids) {
         return Outcome {
             answer: Answer::Refused(Refusal::REGISTER_FULL),
             book,
         };
     }
-    let count = worked.bids;
-    let after = answered(book, words, bids, worked, answers, results, scratch);
-    Outcome {
-        answer: Answer::Bids(count),
-        book: after,
-    }
+    answered(book, words, bids, worked, awarded, answers, results)
 }

@@ -1,25 +1,27 @@
-// What a round works out before its awards, and whether its winners fit the register.
+// What a round works out before anything that is lent changes but the scratch: marks, offers and awards.
 use crate::stage;
 use market::book::Book;
 use market::engine::Engine;
+use market::units::Megawatts;
+use round_awards::Awarded;
 ghost use mathlib.Core.Path.{_≡_};
 ghost use mathlib.Core.Bool.{true};
-ghost use Prim.Native.Nat.{_+_, _≤_};
-ghost use lib.Dec.{leb};
+ghost use Prim.Native.Nat.{_≤_};
 ghost use lib.ListN.{length};
-ghost use Rattle.market.specs.Books.{every};
-ghost use Rattle.market.specs.Limits.{entryLimit};
+ghost use Rattle.market.specs.Books.{every, inMegawatts};
+ghost use Rattle.market.specs.Limits.{bidLimit, scratchWords};
 ghost use Rattle.market.specs.Sound.{soundBook, soundQuantity};
 ghost use Rattle.round_bids.specs.BidRefusals.{BidList};
 ghost use Rattle.round_bids.specs.Bids.{bidsOf};
-ghost use Rattle.call_round.specs.Round.{offeredNow, marksNow, entriesNow};
+ghost use Rattle.call_round.specs.Round.{offeredNow, marksNow};
 ghost use Rattle.call_round.specs.Padded.{padded};
+ghost use Rattle.call_round.specs.Ready.{AwardedOut};
 
 // The marks of the bids, the number of bids, and what the round offers of each path.
 pub struct Worked {
     pub marks: [u32; Engine::BIDS],
     pub bids: usize,
-    pub offered: [u32; Engine::PATHS],
+    pub offered: [Megawatts; Engine::PATHS],
 }
 
 // The marks, the number of bids, and the offers of a round.
@@ -28,7 +30,7 @@ pub fn work_out(book: Book, bids: &[u32]) -> Worked
     requires { ⌜ BidList (now bids) ⌝ }
     ensures marks { λ r. ⌜ r .marks ≡ padded (marksNow book (bidsOf (now (bids .entry)))) (length (bidsOf (now (bids .entry)))) ⌝ }
     ensures bids { λ r. ⌜ r .bids ≡ length (bidsOf (now (bids .entry))) ⌝ }
-    ensures offered { λ r. ⌜ r .offered ≡ offeredNow book ⌝ }
+    ensures offered { λ r. ⌜ inMegawatts (r .offered) ≡ offeredNow book ⌝ }
 {
     let bidders = book.bidders;
     let limits = round_admission::limits_of(bidders);
@@ -46,17 +48,29 @@ pub fn work_out(book: Book, bids: &[u32]) -> Worked
     }
 }
 
-// Whether the register has room for the winners; nothing that is lent is touched.
-pub fn has_room(book: Book, bids: &[u32], worked: Worked) -> bool
-    requires { ⌜ book .entries ≤ entryLimit ⌝ }
+// The awards of a round, put in order in the scratch that is lent.
+pub fn award(bids: &[u32], worked: Worked, scratch: &mut [u32]) -> Awarded
     requires { ⌜ BidList (now bids) ⌝ }
-    requires { ⌜ worked .marks ≡ padded (marksNow book (bidsOf (now bids))) (length (bidsOf (now bids))) ⌝ }
     requires { ⌜ worked .bids ≡ length (bidsOf (now bids)) ⌝ }
-    requires { ⌜ worked .offered ≡ offeredNow book ⌝ }
-    requires { ⌜ every soundQuantity (offeredNow book) ≡ true ⌝ }
-    ensures { λ r. ⌜ r ≡ leb (book .entries + length (entriesNow book (bidsOf (now (bids .entry))))) entryLimit ⌝ }
+    requires { ⌜ length (worked .marks) ≡ bidLimit ⌝ }
+    requires { ⌜ every soundQuantity (inMegawatts (worked .offered)) ≡ true ⌝ }
+    requires { ⌜ scratchWords ≤ length (now scratch) ⌝ }
+    ensures awards { λ r. ⌜ AwardedOut worked (now (bids .entry)) r ⌝ }
+    ensures scratch { λ _. ⌜ length (now (scratch .exit)) ≡ length (now (scratch .entry)) ⌝ }
 {
     let marks = worked.marks;
     let offered = worked.offered;
-    round_entries::has_room(book.entries, bids, &marks, worked.bids, offered)
+    round_awards::award_bids(bids, &marks, worked.bids, offered, scratch)
+}
+
+// The same awards, worked out while nothing that is lent may be touched.
+pub fn award_apart(bids: &[u32], worked: Worked) -> Awarded
+    requires { ⌜ BidList (now bids) ⌝ }
+    requires { ⌜ worked .bids ≡ length (bidsOf (now bids)) ⌝ }
+    requires { ⌜ length (worked .marks) ≡ bidLimit ⌝ }
+    requires { ⌜ every soundQuantity (inMegawatts (worked .offered)) ≡ true ⌝ }
+    ensures { λ r. ⌜ AwardedOut worked (now (bids .entry)) r ⌝ }
+{
+    let mut own = [0u32; Engine::SCRATCH_WORDS];
+    award(bids, worked, &mut own)
 }

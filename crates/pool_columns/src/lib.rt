@@ -1,10 +1,12 @@
 // The two pools of a total, and each participant's share in them.
 use market::answer::Refusal;
 use market::engine::Engine;
+use market::units::Cents;
 ghost use mathlib.Core.Path.{_≡_};
 ghost use mathlib.Core.Bool.{true};
 ghost use Prim.Native.Nat.{_≤_, _<_};
 ghost use Rattle.market.specs.Answers.{firstOf};
+ghost use Rattle.market.specs.Books.{cents, inCents};
 ghost use Rattle.market.specs.Limits.{poolLimit};
 ghost use Rattle.pool_sharing.specs.Sharing.{total};
 ghost use Rattle.pool_columns.specs.Pools.{allCharges, provincialPool, provincialWeights, exportWeights};
@@ -43,14 +45,14 @@ fn all_charges(columns: Columns) -> u64
 }
 
 // The provincial pool of a total.
-fn provincial_pool(total: u64, columns: Columns) -> u64
-    requires { ⌜ total ≤ poolLimit ⌝ }
+fn provincial_pool(total: Cents, columns: Columns) -> Cents
+    requires { ⌜ total .0 ≤ poolLimit ⌝ }
     requires { ⌜ columnsWithin columns ≡ true ⌝ }
     requires { ⌜ 0 < allCharges columns ⌝ }
-    ensures { λ r. ⌜ r ≡ provincialPool total columns ⌝ }
+    ensures { λ r. ⌜ r ≡ cents (provincialPool (total .0) columns) ⌝ }
 {
     let provincial = columns.provincial;
-    total * pool_sharing::column_total(provincial) / all_charges(columns)
+    Cents(total.0 * pool_sharing::column_total(provincial) / all_charges(columns))
 }
 
 // The energy at meters of those with a provincial charge.
@@ -72,16 +74,16 @@ fn export_weights(columns: Columns) -> [u32; Engine::BIDDERS]
 }
 
 // Whether a pool has cents and nobody to get them.
-fn is_unshared(pool: u64, weights: [u32; Engine::BIDDERS]) -> bool
-    ensures { λ r. ⌜ r ≡ unshared pool weights ⌝ }
+fn is_unshared(pool: Cents, weights: [u32; Engine::BIDDERS]) -> bool
+    ensures { λ r. ⌜ r ≡ unshared (pool .0) weights ⌝ }
 {
-    (0 < pool) & (pool_sharing::column_total(weights) == 0)
+    (0 < pool.0) & (pool_sharing::column_total(weights) == 0)
 }
 
 // The refusal of the columns, 0 where there is none.
-pub fn refusal(total: u64, columns: Columns) -> u32
-    requires { ⌜ total ≤ poolLimit ⌝ }
-    ensures { λ r. ⌜ r ≡ firstOf (columnRefusals total columns) ⌝ }
+pub fn refusal(total: Cents, columns: Columns) -> u32
+    requires { ⌜ total .0 ≤ poolLimit ⌝ }
+    ensures { λ r. ⌜ r ≡ firstOf (columnRefusals (total .0) columns) ⌝ }
 {
     if !columns_within(columns) {
         return Refusal::COLUMNS;
@@ -93,7 +95,7 @@ pub fn refusal(total: u64, columns: Columns) -> u32
     if is_unshared(pool, provincial_weights(columns)) {
         return Refusal::COLUMNS;
     }
-    if is_unshared(total - pool, export_weights(columns)) {
+    if is_unshared(Cents(total.0 - pool.0), export_weights(columns)) {
         return Refusal::COLUMNS;
     }
     Refusal::NONE
@@ -101,28 +103,30 @@ pub fn refusal(total: u64, columns: Columns) -> u32
 
 // The sum of each participant's cents in two lists.
 fn add_shares(
-    first: [u64; Engine::BIDDERS],
-    second: [u64; Engine::BIDDERS],
-) -> [u64; Engine::BIDDERS]
-    requires { ⌜ total first ≤ poolLimit ⌝ }
-    requires { ⌜ total second ≤ poolLimit ⌝ }
-    ensures { λ r. ⌜ r ≡ together first second ⌝ }
+    first: [Cents; Engine::BIDDERS],
+    second: [Cents; Engine::BIDDERS],
+) -> [Cents; Engine::BIDDERS]
+    requires { ⌜ total (inCents first) ≤ poolLimit ⌝ }
+    requires { ⌜ total (inCents second) ≤ poolLimit ⌝ }
+    ensures { λ r. ⌜ inCents r ≡ together (inCents first) (inCents second) ⌝ }
 {
-    let mut sums: [u64; Engine::BIDDERS] = [0; Engine::BIDDERS];
+    let mut sums = [Cents(0); Engine::BIDDERS];
     for i in 0..Engine::BIDDERS {
-        sums[i] = first[i] + second[i];
+        let one = first[i];
+        let other = second[i];
+        sums[i] = Cents(one.0 + other.0);
     }
     sums
 }
 
 // Each participant's share of a total.
-pub fn shares_of(total: u64, columns: Columns) -> [u64; Engine::BIDDERS]
-    requires { ⌜ total ≤ poolLimit ⌝ }
-    requires { ⌜ firstOf (columnRefusals total columns) ≡ 0 ⌝ }
-    ensures { λ r. ⌜ r ≡ sharesOf total columns ⌝ }
+pub fn shares_of(total: Cents, columns: Columns) -> [Cents; Engine::BIDDERS]
+    requires { ⌜ total .0 ≤ poolLimit ⌝ }
+    requires { ⌜ firstOf (columnRefusals (total .0) columns) ≡ 0 ⌝ }
+    ensures { λ r. ⌜ inCents r ≡ sharesOf (total .0) columns ⌝ }
 {
     let pool = provincial_pool(total, columns);
     let provincial = pool_sharing::share_pool(pool, provincial_weights(columns));
-    let export = pool_sharing::share_pool(total - pool, export_weights(columns));
+    let export = pool_sharing::share_pool(Cents(total.0 - pool.0), export_weights(columns));
     add_shares(provincial, export)
 }

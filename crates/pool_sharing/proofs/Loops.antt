@@ -1,5 +1,5 @@
 -- Invariants of the loops: the sum so far, the best place so far, the list filled so far, the cents handed out so far.
-use mathlib.Core.Path.{_≡_, refl, _∙_, ap}
+use mathlib.Core.Path.{_≡_, refl, sym, _∙_, ap}
 use mathlib.Core.Bool.{Bool, true, false}
 use mathlib.Core.List.{List, map, append-nil}
 use Prim.Native.Nat.{ℕ, suc, _+_, _-_, _*_, _≤_, _<_}
@@ -9,11 +9,14 @@ use native.Mathlib.Omega.{arith}
 use borrow.Author.Count.{below-more}
 use borrow.Author.Tests.{eqb-true, eqb-false}
 use lib.Dec.{eqb}
-use lib.ListN.{length, getD, take, drop, set, drop-of-length-le}
+use lib.ListN.{length, getD, take, drop, set, length-map, drop-of-length-le}
 use lib.Seq.{take-all, drop-cons, getD-set-same, getD-set-other}
 use Rattle.market.proofs.Filled.{filled}
+use Rattle.market.proofs.KindLaws.{map-set, cents-at}
 use Rattle.pool_sharing.proofs.Largest.{is-largest, biggest-least}
+use Rattle.market.specs.Books.{cents, inCents}
 use Rattle.market.specs.Limits.{poolLimit, columnLimit}
+use Rattle.market.specs.declared.units.Cents.{Cents}
 use Rattle.pool_sharing.specs.Sharing.{total, largest, oneMore, spent, handOut}
 
 -- a product of a pool and a weight fits a word of 64 bits
@@ -76,6 +79,16 @@ all-filled f l n i long p q =
     let none : n - i ≡ 0 = omega arith in
     let all : take i l ≡ l = take-all i l (omega arith) in
     rw (none, all) (append-nil (map f l))
+
+-- a list of amounts has as many numbers as amounts
+pub numbers-long : (l : List Cents) (n : ℕ) → length l ≡ n → length (inCents l) ≡ n
+numbers-long l n long = length-map l (λ (x : Cents). x .0) ∙ long
+
+-- cents added at a place of a list of amounts
+pub cents-added : (l : List Cents) (i more : ℕ) → inCents (set l i (cents (getD l i (cents 0) .0 + more))) ≡ set (inCents l) i (getD (inCents l) i 0 + more)
+cents-added l i more =
+    map-set (λ (x : Cents). x .0) l i (cents (getD l i (cents 0) .0 + more))
+    ∙ ap (λ (n : ℕ). set (inCents l) i (n + more)) (sym (cents-at l i))
 
 -- ---- the cents handed out so far: handing out the rest from here makes the same as handing out all from the start
 abbrev pub Handed : ℕ → List ℕ → List ℕ → ℕ → List ℕ → List ℕ → Type 0

@@ -1,10 +1,12 @@
 // Sharing a pool by a column of weights: the total of a column, the weights of a pool, and what each weight gets of it, rounded down
 // to whole cents, then one cent each by largest remainder.
 use market::engine::Engine;
+use market::units::Cents;
 ghost use mathlib.Core.Path.{_≡_};
 ghost use Rattle.pool_sharing.specs.Sharing.{total, weightOf, eligible, floorOf, remainderOf, largest, handOut, poolShares};
 ghost use mathlib.Core.List.{map};
 ghost use Prim.Native.Nat.{_+_, _≤_, _<_};
+ghost use Rattle.market.specs.Books.{cents, inCents};
 ghost use Rattle.market.specs.Limits.{bidderLimit, poolLimit, columnLimit};
 
 // The sum of a column.
@@ -39,32 +41,33 @@ pub fn eligible_energy(
     weights
 }
 
-fn floor_of(pool: u64, whole: u64, weight: u32) -> u64
-    requires { ⌜ pool ≤ poolLimit ⌝ }
+fn floor_of(pool: Cents, whole: u64, weight: u32) -> Cents
+    requires { ⌜ pool .0 ≤ poolLimit ⌝ }
     requires { ⌜ weight ≤ columnLimit ⌝ }
     requires { ⌜ 0 < whole ⌝ }
-    ensures { λ r. ⌜ r ≡ floorOf pool whole weight ⌝ }
+    ensures { λ r. ⌜ r ≡ cents (floorOf (pool .0) whole weight) ⌝ }
 {
-    pool * (weight as u64) / whole
+    Cents(pool.0 * (weight as u64) / whole)
 }
 
-fn remainder_of(pool: u64, whole: u64, weight: u32) -> u64
-    requires { ⌜ pool ≤ poolLimit ⌝ }
+// The numerator of the fraction of a cent that is dropped; `whole` is the denominator.
+fn remainder_of(pool: Cents, whole: u64, weight: u32) -> u64
+    requires { ⌜ pool .0 ≤ poolLimit ⌝ }
     requires { ⌜ weight ≤ columnLimit ⌝ }
     requires { ⌜ 0 < whole ⌝ }
-    ensures { λ r. ⌜ r ≡ remainderOf pool whole weight ⌝ }
+    ensures { λ r. ⌜ r ≡ remainderOf (pool .0) whole weight ⌝ }
 {
-    pool * (weight as u64) % whole
+    pool.0 * (weight as u64) % whole
 }
 
 // The share of each weight, rounded down to whole cents.
-fn floors_of(pool: u64, whole: u64, weights: [u32; Engine::BIDDERS]) -> [u64; Engine::BIDDERS]
-    requires { ⌜ pool ≤ poolLimit ⌝ }
+fn floors_of(pool: Cents, whole: u64, weights: [u32; Engine::BIDDERS]) -> [Cents; Engine::BIDDERS]
+    requires { ⌜ pool .0 ≤ poolLimit ⌝ }
     requires { ⌜ total weights ≤ columnLimit ⌝ }
     requires { ⌜ 0 < whole ⌝ }
-    ensures { λ r. ⌜ r ≡ map (floorOf pool whole) weights ⌝ }
+    ensures { λ r. ⌜ inCents r ≡ map (floorOf (pool .0) whole) weights ⌝ }
 {
-    let mut floors: [u64; Engine::BIDDERS] = [0; Engine::BIDDERS];
+    let mut floors = [Cents(0); Engine::BIDDERS];
     for i in 0..Engine::BIDDERS {
         let floor = floor_of(pool, whole, weights[i]);
         floors[i] = floor;
@@ -73,11 +76,11 @@ fn floors_of(pool: u64, whole: u64, weights: [u32; Engine::BIDDERS]) -> [u64; En
 }
 
 // What the rounding drops of each weight's share.
-fn remainders_of(pool: u64, whole: u64, weights: [u32; Engine::BIDDERS]) -> [u64; Engine::BIDDERS]
-    requires { ⌜ pool ≤ poolLimit ⌝ }
+fn remainders_of(pool: Cents, whole: u64, weights: [u32; Engine::BIDDERS]) -> [u64; Engine::BIDDERS]
+    requires { ⌜ pool .0 ≤ poolLimit ⌝ }
     requires { ⌜ total weights ≤ columnLimit ⌝ }
     requires { ⌜ 0 < whole ⌝ }
-    ensures { λ r. ⌜ r ≡ map (remainderOf pool whole) weights ⌝ }
+    ensures { λ r. ⌜ r ≡ map (remainderOf (pool .0) whole) weights ⌝ }
 {
     let mut rems: [u64; Engine::BIDDERS] = [0; Engine::BIDDERS];
     for i in 0..Engine::BIDDERS {
@@ -88,15 +91,16 @@ fn remainders_of(pool: u64, whole: u64, weights: [u32; Engine::BIDDERS]) -> [u64
 }
 
 // The sum of shares, which is within the limit of a pool.
-fn shares_total(shares: [u64; Engine::BIDDERS]) -> u64
-    requires { ⌜ total shares ≤ poolLimit ⌝ }
-    ensures { λ r. ⌜ r ≡ total shares ⌝ }
+fn shares_total(shares: [Cents; Engine::BIDDERS]) -> Cents
+    requires { ⌜ total (inCents shares) ≤ poolLimit ⌝ }
+    ensures { λ r. ⌜ r ≡ cents (total (inCents shares)) ⌝ }
 {
     let mut sum: u64 = 0;
     for i in 0..Engine::BIDDERS {
-        sum += shares[i];
+        let share = shares[i];
+        sum += share.0;
     }
-    sum
+    Cents(sum)
 }
 
 // The place of the first largest remainder.
@@ -115,35 +119,37 @@ fn largest_of(rems: [u64; Engine::BIDDERS]) -> usize
 
 // The shares after the cents left are handed out, one each by largest remainder.
 fn hand_out(
-    cents: u64,
+    left: Cents,
     remainders: [u64; Engine::BIDDERS],
-    floors: [u64; Engine::BIDDERS],
-) -> [u64; Engine::BIDDERS]
-    requires { ⌜ total floors + cents ≤ poolLimit ⌝ }
-    ensures { λ r. ⌜ r ≡ handOut cents remainders floors ⌝ }
+    floors: [Cents; Engine::BIDDERS],
+) -> [Cents; Engine::BIDDERS]
+    requires { ⌜ total (inCents floors) + left .0 ≤ poolLimit ⌝ }
+    ensures { λ r. ⌜ inCents r ≡ handOut (left .0) remainders (inCents floors) ⌝ }
 {
     let mut rems = remainders;
     let mut shares = floors;
-    for given in 0..cents {
+    for given in 0..left.0 {
         let place = largest_of(rems);
-        shares[place] = shares[place] + 1;
+        let share = shares[place];
+        shares[place] = Cents(share.0 + 1);
         rems[place] = 0;
     }
     shares
 }
 
 // The share of each participant in a pool. A pool with no weight must be empty.
-pub fn share_pool(pool: u64, weights: [u32; Engine::BIDDERS]) -> [u64; Engine::BIDDERS]
-    requires { ⌜ pool ≤ poolLimit ⌝ }
+pub fn share_pool(pool: Cents, weights: [u32; Engine::BIDDERS]) -> [Cents; Engine::BIDDERS]
+    requires { ⌜ pool .0 ≤ poolLimit ⌝ }
     requires { ⌜ total weights ≤ columnLimit ⌝ }
-    requires { ⌜ (0 < pool → 0 < total weights) ⌝ }
-    ensures { λ r. ⌜ r ≡ poolShares pool weights ⌝ }
+    requires { ⌜ (0 < pool .0 → 0 < total weights) ⌝ }
+    ensures { λ r. ⌜ inCents r ≡ poolShares (pool .0) weights ⌝ }
 {
     let whole = column_total(weights);
     if whole == 0 {
-        return [0; Engine::BIDDERS];
+        return [Cents(0); Engine::BIDDERS];
     }
     let floors = floors_of(pool, whole, weights);
     let remainders = remainders_of(pool, whole, weights);
-    hand_out(pool - shares_total(floors), remainders, floors)
+    let given = shares_total(floors);
+    hand_out(Cents(pool.0 - given.0), remainders, floors)
 }

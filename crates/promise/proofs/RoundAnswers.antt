@@ -102,7 +102,7 @@ module _ (b : Book) (words : List ℕ) (l : Lent) (none : answerNumber (roundMad
 
   pub few : length bids ≤ bidLimit
   few =
-      bids-few pathLimit (l .bids) (listed b words (l .bids) (l .answers) (l .results) (l .scratch) (opened .early) .sound) (opened .early .short)
+      bids-few pathLimit (l .bids) (listed b words (l .bids) (l .answers) (l .results) (l .scratch) (opened .early) .sound) (opened .early .list .short)
 
   -- its lists, and the number of the book's paths
   pub answers-are : answers ≡ withFront (bidAnswersNow b bids) (l .answers)

@@ -1,6 +1,7 @@
 // Bidding limits, and which bids of a round are admitted.
 use market::book::Bidder;
 use market::engine::Engine;
+use market::units::Cents;
 ghost use mathlib.Core.Path.{_≡_};
 ghost use mathlib.Core.Bool.{true, cond};
 ghost use mathlib.Core.List.{map, _++_};
@@ -8,7 +9,7 @@ ghost use Prim.Native.Nat.{_-_, _≤_};
 ghost use lib.Dec.{leb};
 ghost use lib.ListN.{length, replicate};
 ghost use Rattle.market.specs.Sound.{BidderBounds, AllWithin};
-ghost use Rattle.market.specs.Books.{every};
+ghost use Rattle.market.specs.Books.{every, inCents};
 ghost use Rattle.market.specs.Limits.{bidLimit, stepLimit, admitted, over};
 ghost use Rattle.round_bids.specs.BidRefusals.{BidList};
 ghost use Rattle.round_bids.specs.Bids.{bidsOf};
@@ -24,22 +25,23 @@ fn multiplier_of(step: u32) -> u64
 }
 
 // A bidder's limit: the values of its admitted bids in a round are at most this.
-fn limit_of(bidder: Bidder) -> u64
+fn limit_of(bidder: Bidder) -> Cents
     requires { ⌜ BidderBounds bidder ⌝ }
-    ensures { λ r. ⌜ r ≡ biddingLimit bidder ⌝ }
+    ensures { λ r. ⌜ r .0 ≡ biddingLimit bidder ⌝ }
 {
     let cash = bidder.cash;
     let letter = bidder.letter;
     let hold = bidder.hold;
-    multiplier_of(bidder.step) * (cash.0 + letter.0 - hold.0)
+    let limit = multiplier_of(bidder.step) * (cash.0 + letter.0 - hold.0);
+    Cents(limit)
 }
 
 // The limits of all bidders, by number.
-pub fn limits_of(bidders: [Bidder; Engine::BIDDERS]) -> [u64; Engine::BIDDERS]
+pub fn limits_of(bidders: [Bidder; Engine::BIDDERS]) -> [Cents; Engine::BIDDERS]
     requires { ⌜ AllWithin bidders ⌝ }
-    ensures { λ r. ⌜ r ≡ map biddingLimit bidders ⌝ }
+    ensures { λ r. ⌜ inCents r ≡ map biddingLimit bidders ⌝ }
 {
-    let mut limits = [0; Engine::BIDDERS];
+    let mut limits = [Cents(0); Engine::BIDDERS];
     for i in 0..Engine::BIDDERS {
         let limit = limit_of(bidders[i]);
         limits[i] = limit;
@@ -48,20 +50,20 @@ pub fn limits_of(bidders: [Bidder; Engine::BIDDERS]) -> [u64; Engine::BIDDERS]
 }
 
 // The mark of a bid: admitted if `total`, the bidder's admitted values with this one, is within the limit.
-fn mark_of(total: u64, limit: u64) -> u32
-    ensures { λ r. ⌜ r ≡ cond (leb total limit) admitted over ⌝ }
+fn mark_of(total: Cents, limit: Cents) -> u32
+    ensures { λ r. ⌜ r ≡ cond (leb (total .0) (limit .0)) admitted over ⌝ }
 {
-    if total <= limit {
+    if total.0 <= limit.0 {
         return Engine::ADMITTED;
     }
     Engine::OVER
 }
 
 // The values admitted after a bid: with its value where it is admitted, and as before where it is over.
-fn used_after(before: u64, total: u64, limit: u64) -> u64
-    ensures { λ r. ⌜ r ≡ cond (leb total limit) total before ⌝ }
+fn used_after(before: Cents, total: Cents, limit: Cents) -> Cents
+    ensures { λ r. ⌜ r .0 ≡ cond (leb (total .0) (limit .0)) (total .0) (before .0) ⌝ }
 {
-    if total <= limit {
+    if total.0 <= limit.0 {
         return total;
     }
     before
@@ -74,14 +76,15 @@ pub struct Marks {
 }
 
 // The marks of the bids of a list. `used` has the values admitted so far.
-pub fn marks_of(words: &[u32], limits: [u64; Engine::BIDDERS]) -> Marks
+pub fn marks_of(words: &[u32], limits: [Cents; Engine::BIDDERS]) -> Marks
     requires { ⌜ BidList (now words) ⌝ }
-    requires { ⌜ every withinTop limits ≡ true ⌝ }
-    ensures marks { λ r. ⌜ r .marks ≡ marksOf limits (bidsOf (now (words .entry))) ++ replicate (bidLimit - length (bidsOf (now (words .entry)))) 0 ⌝ }
+    requires { ⌜ every withinTop (inCents limits) ≡ true ⌝ }
+    ensures marks { λ r. ⌜ r .marks
+        ≡ marksOf (inCents limits) (bidsOf (now (words .entry))) ++ replicate (bidLimit - length (bidsOf (now (words .entry)))) 0 ⌝ }
     ensures bids { λ r. ⌜ r .bids ≡ length (bidsOf (now (words .entry))) ⌝ }
 {
     let mut marks = [0; Engine::BIDS];
-    let mut used = [0; Engine::BIDDERS];
+    let mut used = [Cents(0); Engine::BIDDERS];
     let mut k: usize = 0;
     let mut at: usize = 0;
     while at < words.len() {
@@ -89,7 +92,7 @@ pub fn marks_of(words: &[u32], limits: [u64; Engine::BIDDERS]) -> Marks
         let value = round_bids::bid_value(words, at);
         let bidder = header.bidder as usize;
         let before = used[bidder];
-        let total = before + value.0;
+        let total = Cents(before.0 + value.0);
         let limit = limits[bidder];
         let mark = mark_of(total, limit);
         let after = used_after(before, total, limit);

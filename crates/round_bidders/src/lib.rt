@@ -6,7 +6,7 @@ ghost use mathlib.Core.Path.{_≡_};
 ghost use mathlib.Core.Bool.{true};
 ghost use Prim.Native.Nat.{min};
 ghost use Rattle.market.specs.Sound.{BidderBounds, AllWithin};
-ghost use Rattle.market.specs.Books.{every};
+ghost use Rattle.market.specs.Books.{every, inCents};
 ghost use Rattle.round_charges.specs.Charges.{withinCharges};
 ghost use Rattle.round_bidders.specs.Bidders.{billed, billedAll};
 
@@ -20,16 +20,16 @@ fn least(a: u64, b: u64) -> u64
 }
 
 // A bidder billed with its charges of the round.
-fn bill(bidder: Bidder, charges: u64) -> Bidder
+fn bill(bidder: Bidder, charges: Cents) -> Bidder
     requires { ⌜ BidderBounds bidder ⌝ }
-    requires { ⌜ withinCharges charges ≡ true ⌝ }
-    ensures { λ r. ⌜ r ≡ billed bidder charges ⌝ }
+    requires { ⌜ withinCharges (charges .0) ≡ true ⌝ }
+    ensures { λ r. ⌜ r ≡ billed bidder (charges .0) ⌝ }
 {
     let cash = bidder.cash;
     let applied = bidder.applied;
     let letter = bidder.letter;
     let owed = bidder.owed;
-    let due = owed.0 + charges;
+    let due = owed.0 + charges.0;
     let moved = least(cash.0, due);
     let left = due - moved;
     Bidder {
@@ -45,11 +45,11 @@ fn bill(bidder: Bidder, charges: u64) -> Bidder
 // All bidders billed with their charges, whether they bid or not.
 pub fn bill_all(
     bidders: [Bidder; Engine::BIDDERS],
-    charges: [u64; Engine::BIDDERS],
+    charges: [Cents; Engine::BIDDERS],
 ) -> [Bidder; Engine::BIDDERS]
     requires { ⌜ AllWithin bidders ⌝ }
-    requires { ⌜ every withinCharges charges ≡ true ⌝ }
-    ensures { λ r. ⌜ r ≡ billedAll bidders charges ⌝ }
+    requires { ⌜ every withinCharges (inCents charges) ≡ true ⌝ }
+    ensures { λ r. ⌜ r ≡ billedAll bidders (inCents charges) ⌝ }
 {
     let mut next = bidders;
     for i in 0..Engine::BIDDERS {

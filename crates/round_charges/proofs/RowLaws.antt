@@ -80,12 +80,11 @@ module _ {words marks won prices before answers : List ℕ} {k at : ℕ} (s : La
 
     -- the bid here has its row
     pub one-laid :
-        (value path charge : ℕ) → value ≡ bidValue bid → path ≡ bid .path → charge ≡ getD prices path 0 * getD won k 0
-        → LaidTo words marks won prices before (put (getD marks k 0 ∷ value ∷ getD won k 0 ∷ charge ∷ [])) (k + 1) (bidEnd words at)
-    one-laid value path charge ev ep ec =
-        let is : charge ≡ chargeAt won prices k bid = ec ∙ ap (λ (p : ℕ). getD prices p 0 * getD won k 0) ep in
-        subst (λ (n : ℕ). LaidTo words marks won prices before (put (getD marks k 0 ∷ n ∷ getD won k 0 ∷ charge ∷ [])) (k + 1) (bidEnd words at)) (sym ev)
-        (subst (λ (n : ℕ). LaidTo words marks won prices before (put (getD marks k 0 ∷ bidValue bid ∷ getD won k 0 ∷ n ∷ [])) (k + 1) (bidEnd words at)) (sym is) exactly)
+        (value path taken charge : ℕ) → value ≡ bidValue bid → path ≡ bid .path → taken ≡ getD won k 0 → charge ≡ getD prices path 0 * taken
+        → LaidTo words marks won prices before (put (getD marks k 0 ∷ value ∷ taken ∷ charge ∷ [])) (k + 1) (bidEnd words at)
+    one-laid value path taken charge ev ep et ec =
+        let is : charge ≡ chargeAt won prices k bid = ec ∙ ap₂ (λ (p m : ℕ). getD prices p 0 * m) ep et in
+        rw (ev, et, is) exactly
 
     -- the list is as long as before
     pub laid-length : k * bidAnswerSize ≤ length before → length answers ≡ length before

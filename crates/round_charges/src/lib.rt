@@ -7,7 +7,7 @@ ghost use mathlib.Core.Bool.{true};
 ghost use mathlib.Core.List.{_++_, _∷_, []};
 ghost use Prim.Native.Nat.{_+_, _*_, _≤_, _<_};
 ghost use lib.ListN.{length, take, drop};
-ghost use Rattle.market.specs.Books.{every, cents, withFront};
+ghost use Rattle.market.specs.Books.{every, cents, inCents, inMegawatts, withFront};
 ghost use Rattle.market.specs.Limits.{bidLimit, bidAnswerSize, bidAnswerWords};
 ghost use Rattle.market.specs.Sound.{soundQuantity};
 ghost use Rattle.round_bids.specs.BidRefusals.{BidList};
@@ -27,26 +27,26 @@ fn charge(price: Cents, won: Megawatts) -> Cents
 // The charges of each bidder.
 pub fn charges_of(
     words: &[u32],
-    won: &[u32],
-    prices: [u64; Engine::PATHS],
-) -> [u64; Engine::BIDDERS]
+    won: [Megawatts; Engine::BIDS],
+    prices: [Cents; Engine::PATHS],
+) -> [Cents; Engine::BIDDERS]
     requires { ⌜ BidList (now words) ⌝ }
-    requires { ⌜ bidLimit ≤ length (now won) ⌝ }
-    requires { ⌜ every soundQuantity (now won) ≡ true ⌝ }
-    requires { ⌜ every soundClearingPrice prices ≡ true ⌝ }
-    ensures { λ r. ⌜ r ≡ chargesOf (now (won .entry)) prices (bidsOf (now (words .entry))) ⌝ }
-    ensures { λ r. ⌜ every withinCharges r ≡ true ⌝ }
+    requires { ⌜ every soundQuantity (inMegawatts won) ≡ true ⌝ }
+    requires { ⌜ every soundClearingPrice (inCents prices) ≡ true ⌝ }
+    ensures { λ r. ⌜ inCents r ≡ chargesOf (inMegawatts won) (inCents prices) (bidsOf (now (words .entry))) ⌝ }
+    ensures { λ r. ⌜ every withinCharges (inCents r) ≡ true ⌝ }
 {
-    let mut charges = [0; Engine::BIDDERS];
+    let mut charges = [Cents(0); Engine::BIDDERS];
     let mut k: usize = 0;
     let mut at: usize = 0;
     while at < words.len() {
         let header = round_bids::header_at(words, at);
         let path = header.path as usize;
         let bidder = header.bidder as usize;
-        let bill = charge(Cents(prices[path]), Megawatts(won[k]));
-        let sum = charges[bidder] + bill.0;
-        charges[bidder] = sum;
+        let bill = charge(prices[path], won[k]);
+        let before = charges[bidder];
+        let sum = before.0 + bill.0;
+        charges[bidder] = Cents(sum);
         k += 1;
         at = round_bids::bid_end(words, at);
     }
@@ -71,18 +71,17 @@ fn put_row(answers: &mut [u64], k: usize, mark: u32, value: Cents, won: Megawatt
 pub fn write_bids(
     words: &[u32],
     marks: &[u32],
-    won: &[u32],
-    prices: [u64; Engine::PATHS],
+    won: [Megawatts; Engine::BIDS],
+    prices: [Cents; Engine::PATHS],
     answers: &mut [u64],
 )
     requires { ⌜ BidList (now words) ⌝ }
     requires { ⌜ bidLimit ≤ length (now marks) ⌝ }
-    requires { ⌜ bidLimit ≤ length (now won) ⌝ }
-    requires { ⌜ every soundQuantity (now won) ≡ true ⌝ }
-    requires { ⌜ every soundClearingPrice prices ≡ true ⌝ }
+    requires { ⌜ every soundQuantity (inMegawatts won) ≡ true ⌝ }
+    requires { ⌜ every soundClearingPrice (inCents prices) ≡ true ⌝ }
     requires { ⌜ bidAnswerWords ≤ length (now answers) ⌝ }
-    ensures { λ r. ⌜
-        now (answers .exit) ≡ withFront (bidRows (now (marks .entry)) (now (won .entry)) prices (bidsOf (now (words .entry)))) (now (answers .entry)) ⌝ }
+    ensures { λ r. ⌜ now (answers .exit)
+        ≡ withFront (bidRows (now (marks .entry)) (inMegawatts won) (inCents prices) (bidsOf (now (words .entry)))) (now (answers .entry)) ⌝ }
 {
     let mut k: usize = 0;
     let mut at: usize = 0;
@@ -90,8 +89,8 @@ pub fn write_bids(
         let header = round_bids::header_at(words, at);
         let value = round_bids::bid_value(words, at);
         let path = header.path as usize;
-        let taken = Megawatts(won[k]);
-        let bill = charge(Cents(prices[path]), taken);
+        let taken = won[k];
+        let bill = charge(prices[path], taken);
         put_row(answers, k, marks[k], value, taken, bill);
         k += 1;
         at = round_bids::bid_end(words, at);

@@ -76,13 +76,13 @@ module _ (p : tie.Else2) where
 -- the account's test decides
 module _ (p : tie.After-sound) where
   abbrev clear : tie.Else2
-  clear = p .before .before .before .before
+  clear = p .before .before .before
 
   abbrev s : tie.Start
   s = start (passed clear)
 
   after : p .before .minus .result ≡ balance (accountPaying (s .args .book) (s .args .day) (s .args .failed) (s .args .prices .now) (entries s))
-  after = p .before .minus .ensures ∙ ap (λ (n : ℕ). balance (s .args .book .account .0 -ℤ pos n)) (p .before .before .before .amounts-of .ensures .1 .0)
+  after = p .before .minus .ensures ∙ ap (λ (n : ℕ). balance (s .args .book .account .0 -ℤ pos n)) (p .before .before .amounts-of .ensures .1 .0)
 
   number : (t : Bool) → p .sound .result ≡ t → cond (not t) 31 0 ≡ refusalOf (rule s) (s .args .book) (s .args .words .now)
   number t is =
@@ -111,8 +111,8 @@ amounts-of-requires c κs =
 
 minus-requires : tie.Need-minus-requires
 minus-requires c κs =
-    let p = passed (c .before .before) in
-    (sound-parts (start p .args .book) (lent p .register .sound) .account, c .before .amounts-of .ensures .1 .1)
+    let p = passed (c .before) in
+    (sound-parts (start p .args .book) (lent p .register .sound) .account, c .amounts-of .ensures .1 .1)
 
 returns-3 : tie.Need-returns-3
 returns-3 c = refusing (s (c .before)) 31 (number (c .before) false (not-true _ (c .if3 .taken))) (λ z. omega arith)
@@ -123,7 +123,7 @@ returns-4 c =
     let both = taking (s p) (number p true (not-false _ (c .before .before .before .before .before .before .if3 .left))) in (
       ap answered (c .with-account .ensures ∙ ap (λ (z : Balance). withAccount (s p .args .book) (z .0)) (after p)) ∙ both .0,
       c .before .before .before .write-amounts .ensures
-          ∙ ap (λ (l : List ℕ). withFront l (s p .args .lent .now)) (p .before .before .before .amounts-of .ensures .0)
+          ∙ ap (λ (l : List ℕ). withFront l (s p .args .lent .now)) (p .before .before .amounts-of .ensures .0)
           ∙ both .1,
     )
 
@@ -142,7 +142,7 @@ payout-spec =
     (λ c κs. search needs)
     (λ c. search needs)
     returns-3
-    (λ c κs. lent (c .before .before .before .before .before .before .before .before .before) .amounts-long)
+    (λ c κs. lent (passed (clear (c .before .before .before))) .amounts-long)
     (λ c κs. search needs)
     (λ c. search needs)
     returns-4)

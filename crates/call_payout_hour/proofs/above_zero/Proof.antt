@@ -1,21 +1,26 @@
-use mathlib.Core.Path.{sym, _∙_, ap}
+-- By cases on the price's sign, each with the law of that case (above-none, above-all); the price fits its field, so
+-- what the code compares is the price itself.
+use mathlib.Core.Path.{_≡_, sym, _∙_, ap}
 use mir.Facts.{toZ-ofZ}
+use mir.Syntax.{w64}
 use lib.IntN.{natAbs}
+use Rattle.market.specs.Books.{cents}
 use Rattle.call_payout_hour.proofs.PriceLaws.{above-none, above-all}
 use borrow.Author.Needs.{needs}
 use Rattle.call_payout_hour.proofs.above_zero.Statement.{statement}
 use Rattle.call_payout_hour.proofs.above_zero.Tie as tie
 
 returns : tie.Need-returns
-returns c = sym (above-none (c .before .args .price) (rw (toZ-ofZ (c .before .fits .price)) at (c .if1 .taken)))
+returns c =
+    let z = c .before .before .before .args .price .0 in
+    let same = toZ-ofZ {w = w64} {z = z} (record { sfits = c .before .struct-told .given .0 .1 }) in
+    ap cents (sym (above-none z (rw same at (c .if1 .taken))))
 
 returns-2 : tie.Need-returns-2
 returns-2 c =
-    let z = c .before .before .args .price in
-    let fits = c .before .before .fits .price in
-    c .magnitude .ensures
-    ∙ ap natAbs (toZ-ofZ fits)
-    ∙ sym (above-all z (rw (toZ-ofZ fits) at (c .before .if1 .left)))
+    let z = c .before .before .before .before .before .args .price .0 in
+    let same = toZ-ofZ {w = w64} {z = z} (record { sfits = c .before .struct-told2 .given .0 .1 }) in
+    ap cents (c .magnitude .ensures ∙ ap natAbs same ∙ sym (above-all z (rw same at (c .before .before .if1 .left))))
 
 pub above-zero-spec : {M : Type 1} → statement M
 above-zero-spec = tie.close (tie.spec returns (λ c κs. search needs) returns-2)

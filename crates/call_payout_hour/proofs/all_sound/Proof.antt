@@ -4,12 +4,12 @@
 use borrow.Author.Needs.{needs}
 use borrow.Author.Tests.{not-true, not-false}
 use mathlib.Core.Path.{refl, sym, _∙_, ap}
-use mir.Facts.{toZ-ofZ}
 use Prim.Native.Nat.{_≤_, _-_}
 use lib.IntN.{pos}
 use lib.ListN.{take}
 use Rattle.market.proofs.Tests.{Passed, pass-first, fail-first, passed-first}
 use Rattle.market.specs.Limits.{zones}
+use Rattle.market.specs.declared.units.ZonePrice.{ZonePrice}
 use Rattle.call_payout_hour.specs.Hours.{soundZonePrice}
 use Rattle.call_payout_hour.proofs.all_sound.Statement.{statement}
 use Rattle.call_payout_hour.proofs.all_sound.Tie as tie
@@ -29,7 +29,7 @@ returns c =
     let at = c .before .before .before .before .loop in
     sym
     (fail-first soundZonePrice ps zones (search needs) (at .i) (pos 0) (search needs) (at .inv .1)
-    (ap soundZonePrice (sym (toZ-ofZ (record { sfits = c .before .before .price-at .ok }) ∙ c .before .before .price-at .ensures))
+    (ap (λ (p : ZonePrice). soundZonePrice (p .0)) (sym (c .before .before .price-at .ensures))
     ∙ sym (c .before .is-sound .ensures)
     ∙ not-true _ (c .if1 .taken)))
 
@@ -39,7 +39,7 @@ loop-again c =
     let at = c .before .before .before .before .loop in (
       search needs,
       pass-first soundZonePrice ps zones (search needs) (at .i) (pos 0) (search needs) (at .inv .1)
-          (ap soundZonePrice (sym (toZ-ofZ (record { sfits = c .before .before .price-at .ok }) ∙ c .before .before .price-at .ensures))
+          (ap (λ (p : ZonePrice). soundZonePrice (p .0)) (sym (c .before .before .price-at .ensures))
           ∙ sym (c .before .is-sound .ensures)
           ∙ not-false _ (c .if1 .left)),
     )

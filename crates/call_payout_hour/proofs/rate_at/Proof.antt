@@ -1,11 +1,8 @@
 -- By cases on the direction: export takes the part of the price above 0, import that of its negative. For a sound price
 -- both parts are within the price limit (above-within, below-within).
 use native.Mathlib.Omega.{arith}
-use mathlib.Core.Path.{_∙_, ap}
-use mir.Facts.{toZ-ofZ}
-use mir.Syntax.{w64}
-use lib.IntN.{ℤ, negℤ}
-use Rattle.call_payout_hour.specs.Hours.{aboveZero}
+use mathlib.Core.Path.{ap}
+use Rattle.market.specs.declared.units.Cents.{Cents}
 use Rattle.call_payout_hour.proofs.PriceLaws.{above-within, below-within}
 use borrow.Author.Needs.{needs}
 use Rattle.call_payout_hour.proofs.rate_at.Statement.{statement}
@@ -16,19 +13,15 @@ enum-told c = search needs
 
 returns : tie.Need-returns
 returns c =
-    let start = c .before .before .before .before in
-    let z = start .args .price .0 in
-    let same = toZ-ofZ {w = w64} {z = z} (record { sfits = c .before .struct-told .given .0 .1 }) in
-    let is = c .above-zero .ensures ∙ ap aboveZero same in
-    (rw (c .before .before .enum-told .given .1) is, omega (arith, is, above-within z (start .pre)))
+    let start = c .before .before .before in
+    let is = c .above-zero .ensures in
+    (rw (c .before .enum-told .given .1) is, omega (arith, ap (λ (x : Cents). x .0) is, above-within (start .args .price .0) (start .pre)))
 
 returns-2 : tie.Need-returns-2
 returns-2 c =
-    let start = c .before .before .before .before in
-    let z = start .args .price .0 in
-    let same = toZ-ofZ {w = w64} {z = z} (record { sfits = c .before .struct-told2 .given .0 .1 }) in
-    let is = c .below-zero .ensures ∙ ap (λ (p : ℤ). aboveZero (negℤ p)) same in
-    (rw (c .before .before .enum-told2 .given .1) is, omega (arith, is, below-within z (start .pre)))
+    let start = c .before .before .before in
+    let is = c .below-zero .ensures in
+    (rw (c .before .enum-told2 .given .1) is, omega (arith, ap (λ (x : Cents). x .0) is, below-within (start .args .price .0) (start .pre)))
 
 pub rate-at-spec : {M : Type 1} → statement M
 rate-at-spec =

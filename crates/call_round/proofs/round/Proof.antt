@@ -1,28 +1,37 @@
--- Three ways out: refused before the awards (`first-stands`), refused because the winners do not fit (`decides`), both
--- with everything as it was (`stays`), or answered (`takes` and the others). Without an early refusal everything holds
--- that the later calls require (`early-cleared`).
+-- Refused before the awards (`first-stands`), or because the winners do not fit (`decides`), with everything as it was
+-- (`stays`); or answered (`done`), where there is room for every bid (`room-for-all`) or, at least, for the winners
+-- (`room-is`). Without an early refusal everything holds that the later calls require (`early-cleared`).
 use mathlib.Core.Path.{_≡_, refl, sym, _∙_, ap, ap₂}
 use mathlib.Core.Bool.{Bool, true, false, cond, not}
-use mathlib.Core.List.{List}
-use Prim.Native.Nat.{ℕ, _+_}
+use mathlib.Core.List.{List, _++_}
+use Prim.Native.Nat.{ℕ, _+_, _-_, _≤_}
 use native.Mathlib.Omega.{arith}
 use lib.Dec.{leb}
 use lib.ListN.{length}
-use borrow.Author.Tests.{not-true, not-false, leb-true}
+use borrow.Author.Tests.{not-true, not-false, leb-true, le-leb}
 use Rattle.market.proofs.Tables.{first-stands, second-decides}
 use Rattle.market.specs.Answers.{Row, firstOf, refused}
-use Rattle.market.specs.Limits.{entryLimit}
-use Rattle.market.specs.declared.answer.Answer.the-variants.{Bids}
+use Rattle.market.specs.Books.{every, inMegawatts, withFront}
+use Rattle.market.specs.Limits.{entryLimit, bidLimit, bidAnswerWords, pathAnswerWords}
+use Rattle.market.specs.Sound.{soundBook, soundQuantity, periodOf}
+use Rattle.market.specs.declared.answer.Outcome.{Outcome}
 use Rattle.market.specs.declared.book.Book.{Book}
+use Rattle.register.specs.Refusals.{countedEntries, LentRegister}
+use Rattle.register.specs.Words.{entriesWritten}
+use Rattle.round_awards.specs.Tables.{wonTable}
+use Rattle.round_awards.specs.declared.Awarded.{Awarded}
 use Rattle.round_bids.specs.Bids.{Bid, bidsOf}
+use Rattle.round_entries.proofs.WinnerLaws.{winners-within}
+use Rattle.round_entries.specs.Entries.{winnersIn}
 use Rattle.call_rules.proofs.Decides.{refuses, words-stay, list-stays, scratch-stays, takes, words-change, list-changes, scratch-changes}
 use Rattle.call_rules.specs.Rule.{Rule}
 use Rattle.call_rules.specs.Steps.{refusalOf, outcomeOf, wordsAfter, toAnswers, toResults, listAfter, ScratchAfter}
-use Rattle.call_round.specs.Ready.{Early}
-use Rattle.call_round.specs.Round.{entriesNow, roomRefusals, earlyRefusals, round}
+use Rattle.call_round.specs.Ready.{RightList, Early, WorkedOut, AwardedOut}
+use Rattle.call_round.specs.Round.{wonNow, entriesNow, bidAnswersNow, pathAnswersNow, roomRefusals, earlyRefusals, roundOutcome, round}
 use Rattle.call_round.proofs.Cleared.{early-cleared, early-numbered}
-use Rattle.call_round.proofs.ReadyLaws.{sound, listed}
+use Rattle.call_round.proofs.ReadyLaws.{sound, listed, few, marks-long, awards-are}
 use Rattle.call_round.proofs.RoundBounds.{offered-quantities}
+use Rattle.call_round.proofs.RoundLaws.{winners-are}
 use borrow.Author.Needs.{needs}
 use Rattle.call_round.proofs.round.Statement.{statement}
 use Rattle.call_round.proofs.round.Tie as tie
@@ -78,6 +87,27 @@ module _ (s : tie.Start) where
       second-decides rows (roomRefusals b bids) (early-numbered b words (s .args .bids .now) answers results scratch) none
       ∙ ap (λ (u : Bool). cond (not u) 23 0) is
 
+  -- answered, with the lists as the round leaves them and any words in the scratch
+  done :
+      firstOf rows ≡ 0 → fits ≡ true → {o : Outcome} {w a r : List ℕ} (x : List ℕ) → o ≡ roundOutcome b bids
+      → w ≡ entriesWritten words (countedEntries b words ++ entriesNow b bids)
+      → a ≡ withFront (bidAnswersNow b bids) answers → r ≡ withFront (pathAnswersNow b bids) results → length x ≡ length scratch
+      → (o ≡ outcomeOf rule b words)
+      × ((w ≡ wordsAfter rule b words)
+      × ((a ≡ listAfter toAnswers rule b words answers) × ((r ≡ listAfter toResults rule b words results) × ScratchAfter rule b words scratch x)))
+  unfolding round
+  done none fit x eo ew ea er ex =
+      let is = sym (decides none true fit) in (
+        eo ∙ takes rule b words 0 is refl,
+        (
+          ew ∙ words-change rule b words 0 is refl,
+          (
+            ea ∙ list-changes rule b words 0 is refl toAnswers answers,
+            (er ∙ list-changes rule b words 0 is refl toResults results, scratch-changes rule b words 0 is refl scratch x ex),
+          ),
+        ),
+      )
+
 -- nothing is refused before the awards
 module _ (p : tie.Else1) where
   abbrev start : tie.Start
@@ -89,13 +119,51 @@ module _ (p : tie.Else1) where
   early : Early (b start) (words start) (start .args .bids .now) (answers start) (results start) (scratch start)
   early = early-cleared _ _ _ _ _ _ none
 
--- and the winners fit
-module _ (p : tie.Else2) where
-  abbrev passed : tie.Else1
-  passed = p .before .before .before
+  ok : soundBook (b start) ≡ true
+  ok = sound _ _ _ _ _ _ early
 
-  fit : fits (start passed) ≡ true
-  fit = sym (p .before .has-room .ensures) ∙ not-false _ (p .if2 .left)
+-- and marks and offers are worked out
+module _ (p : tie.After-work-out) where
+  abbrev s : tie.Start
+  s = start (p .before)
+
+  worked : WorkedOut (b s) (s .args .bids .now) (p .work-out .result)
+  worked = let e = p .work-out .ensures in record { marks = e .0; count = e .1 .0; offers = e .1 .1 }
+
+  offers-sound : every soundQuantity (inMegawatts (p .work-out .result .offered)) ≡ true
+  offers-sound = ap (every soundQuantity) (worked .offers) ∙ offered-quantities (b s) (ok (p .before))
+
+  long : length (p .work-out .result .marks) ≡ bidLimit
+  long = marks-long _ _ (ok (p .before)) (early (p .before) .list) _ worked
+
+  winners : winnersIn (wonNow (b s) (bids s)) (length (bids s)) ≡ length (entriesNow (b s) (bids s))
+  winners = winners-are (periodOf (b s .stage)) (wonNow (b s) (bids s)) (bids s)
+
+  -- where there is room for all bids there is room for the winners
+  room-for-all : p .work-out .result .bids ≤ entryLimit - b s .entries → fits s ≡ true
+  room-for-all room =
+      let most = winners-within (wonNow (b s) (bids s)) (length (bids s)) in
+      let counted = early (p .before) .lent .register .count in
+      le-leb (b s .entries + length (entriesNow (b s) (bids s))) entryLimit (omega (arith, room, worked .count, most, winners, counted))
+
+  -- the room for the winners of these awards is the room for the rule's
+  room-is :
+      (a : Awarded) → AwardedOut (p .work-out .result) (s .args .bids .now) a
+      → leb (b s .entries + winnersIn (inMegawatts (a .won)) (p .work-out .result .bids)) entryLimit ≡ fits s
+  room-is a out =
+      let won = out .won ∙ ap wonTable (awards-are _ _ (ok (p .before)) (early (p .before) .list) _ worked) in
+      ap (λ (n : ℕ). leb (b s .entries + n) entryLimit) (ap₂ winnersIn won (worked .count) ∙ winners)
+
+  asked : (a : Awarded) → AwardedOut (p .work-out .result) (s .args .bids .now) a → fits s ≡ true →
+      LentRegister (b s) (words s)
+      × ((bidAnswerWords ≤ length (answers s))
+      × ((pathAnswerWords ≤ length (results s))
+      × (RightList (b s) (s .args .bids .now)
+      × (WorkedOut (b s) (s .args .bids .now) (p .work-out .result)
+      × (AwardedOut (p .work-out .result) (s .args .bids .now) a × (b s .entries + length (entriesNow (b s) (bids s)) ≤ entryLimit))))))
+  asked a out fit =
+      let e = early (p .before) in
+      (e .lent .register, (e .lent .answers-long, (e .lent .results-long, (e .list, (worked, (out, leb-true _ _ fit))))))
 
 returns : tie.Need-returns
 unfolding refusalOf round
@@ -104,41 +172,52 @@ returns c = let s = c .before .before .before .before .before .before .before .b
     stays s _ (is ∙ sym (first-stands (rows s) (roomRefusals (b s) (bids s)) (λ z. c .if1 .taken (is ∙ z)))) (c .if1 .taken)
 
 work-out-requires : tie.Need-work-out-requires
-work-out-requires c κs = (sound _ _ _ _ _ _ (early c), listed _ _ _ _ _ _ (early c))
+work-out-requires c κs = (ok c, listed _ _ _ _ _ _ (early c))
 
-has-room-requires : tie.Need-has-room-requires
-has-room-requires c κs = let e = early (c .before) in
-    let out = c .work-out .ensures in
-    (e .lent .register .count, (listed _ _ _ _ _ _ e, (out .0, (out .1 .0, (out .1 .1, offered-quantities _ (sound _ _ _ _ _ _ e))))))
-
-returns-2 : tie.Need-returns-2
-returns-2 c = let p = c .before .before .before in
-    let over = sym (c .before .has-room .ensures) ∙ not-true _ (c .if2 .taken) in
-    stays (start p) 23 (sym (decides (start p) (none p) false over)) (λ e. let no : ⊥ = omega (arith, e) in no)
+award-requires : tie.Need-award-requires
+award-requires c κs = let p = c .before .before .before .before in
+    let e = early (p .before) in
+    (listed _ _ _ _ _ _ e, (worked p .count, (long p, (offers-sound p, e .lent .scratch-long))))
 
 answered-requires : tie.Need-answered-requires
-answered-requires c κs = let p = c .before .before .before .before in
-    let out = p .before .before .work-out .ensures in
-    (early (passed p), (record { marks = out .0; count = out .1 .0; offers = out .1 .1 }, leb-true _ _ (fit p)))
+answered-requires c κs = let p = c .before .before .before .before .before .before .before .before .before .before in
+    asked p _ (c .before .before .before .before .before .award .ensures .0) (room-for-all p (c .before .before .before .before .before .before .before .if2 .taken))
+
+returns-2 : tie.Need-returns-2
+returns-2 c = let p = c .before .before .before .before .before .before .before .before .before .before .before .before .before .before .before .before .before in
+    let e = c .before .before .before .before .before .before .answered .ensures in
+    let kept = c .before .before .before .before .before .before .before .before .before .before .before .before .award .ensures .1 in
+    let fit = room-for-all p (c .before .before .before .before .before .before .before .before .before .before .before .before .before .before .if2 .taken) in
+    done (s p) (none (p .before)) fit _ (e .0) (e .1 .0) (e .1 .1 .0) (e .1 .1 .1) kept
+
+award-apart-requires : tie.Need-award-apart-requires
+award-apart-requires c κs = let p = c .before .before .before in
+    (listed _ _ _ _ _ _ (early (p .before)), (worked p .count, (long p, offers-sound p)))
+
+has-room-requires : tie.Need-has-room-requires
+has-room-requires c κs = let p = c .before .before .before .before .before in
+    let e = early (p .before) in
+    (e .lent .register .count, omega (arith, worked p .count, few _ _ (ok (p .before)) (e .list)))
 
 returns-3 : tie.Need-returns-3
-unfolding round
-returns-3 c = let p = c .before .before .before .before .before .before .before .before .before .before .before .before .before in
-    let s = start (passed p) in
-    let e = c .before .before .before .before .before .before .before .before .answered .ensures in
-    let is = sym (decides s (none (passed p)) true (fit p)) in (
-      ap₂ (λ (n : ℕ) (after : Book). record { answer = Bids n; book = after }) (p .before .before .work-out .ensures .1 .0) (e .0) ∙ takes (rule s) (b s) (words s) 0 is refl,
-      (
-        e .1 .0 ∙ words-change (rule s) (b s) (words s) 0 is refl,
-        (
-          e .1 .1 .0 ∙ list-changes (rule s) (b s) (words s) 0 is refl toAnswers (answers s),
-          (
-            e .1 .1 .1 .0 ∙ list-changes (rule s) (b s) (words s) 0 is refl toResults (results s),
-            scratch-changes (rule s) (b s) (words s) 0 is refl (scratch s) _ (e .1 .1 .1 .1),
-          ),
-        ),
-      ),
-    )
+returns-3 c = let p = c .before .before .before .before .before .before .before in
+    let is = room-is p _ (c .before .before .before .award-apart .ensures) in
+    let over = sym (c .before .has-room .ensures ∙ is) ∙ not-true _ (c .if3 .taken) in
+    stays (s p) 23 (sym (decides (s p) (none (p .before)) false over)) (λ e. let no : ⊥ = omega (arith, e) in no)
+
+-- the winners fit
+fit : (p : tie.Else3) → fits (s (p .before .before .before .before .before .before .before)) ≡ true
+fit p = let is = room-is (p .before .before .before .before .before .before .before) _ (p .before .before .before .award-apart .ensures) in
+    sym (p .before .has-room .ensures ∙ is) ∙ not-false _ (p .if3 .left)
+
+answered-requires-2 : tie.Need-answered-requires-2
+answered-requires-2 c κs = let out = c .before .before .before .before .before .before .award-apart .ensures in
+    asked (c .before .before .before .before .before .before .before .before .before .before) _ out (fit (c .before .before .before))
+
+returns-4 : tie.Need-returns-4
+returns-4 c = let p = c .before .before .before .before .before .before .before .before .before .before .before .before .before .before .before .before .before in
+    let e = c .before .before .before .before .before .before .answered2 .ensures in
+    done (s p) (none (p .before)) (fit (c .before .before .before .before .before .before .before .before .before .before)) _ (e .0) (e .1 .0) (e .1 .1 .0) (e .1 .1 .1) refl
 
 pub round-spec : {M : Type 1} → statement M
 round-spec =
@@ -151,15 +230,24 @@ round-spec =
     (λ c. search needs)
     returns
     work-out-requires
-    has-room-requires
-    (λ c. search needs)
-    (λ c. search needs)
-    (λ c. search needs)
-    (λ c. search needs)
-    returns-2
+    (λ c. omega (arith, early (c .before .before) .lent .register .count))
+    award-requires
     answered-requires
     (λ c. search needs)
     (λ c. search needs)
     (λ c. search needs)
     (λ c. search needs)
-    returns-3)
+    returns-2
+    award-apart-requires
+    has-room-requires
+    (λ c. search needs)
+    (λ c. search needs)
+    (λ c. search needs)
+    (λ c. search needs)
+    returns-3
+    answered-requires-2
+    (λ c. search needs)
+    (λ c. search needs)
+    (λ c. search needs)
+    (λ c. search needs)
+    returns-4)

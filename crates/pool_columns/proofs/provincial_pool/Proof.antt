@@ -7,16 +7,16 @@ use borrow.Author.Needs.{needs}
 use Rattle.pool_columns.proofs.provincial_pool.Statement.{statement}
 use Rattle.pool_columns.proofs.provincial_pool.Tie as tie
 
-mul-result : tie.Need-mul-result
-mul-result c =
-    let cols = c .before .before .args .columns in
-    let pre = c .before .before .pre in
-    let most = totals-within cols (pre .1 .0) in
-    omega (arith, product-within (c .before .before .args .total) (c .column-total .result) (pre .0) (omega (arith, most .provincial)))
+mul-t5 : tie.Need-mul-t5
+mul-t5 c =
+    let s = c .before .before .before in
+    let most = totals-within (s .args .columns) (s .pre .1 .0) in
+    let column = c .before .column-total in
+    record { fits = omega (arith, product-within (s .args .total .0) (column .result) (s .pre .0) (omega (arith, column .ensures, most .provincial))) }
 
 returns : tie.Need-returns
-returns c = rw (c .before .column-total .ensures, c .all-charges .ensures)
+returns c = rw (c .before .before .column-total .ensures, c .all-charges .ensures)
 
 pub provincial-pool-spec : {M : Type 1} → statement M
 provincial-pool-spec =
-    tie.close (tie.spec (λ c κs. search needs) mul-result (λ c κs. search needs) (λ c. search needs) returns)
+    tie.close (tie.spec (λ c κs. search needs) mul-t5 (λ c κs. search needs) (λ c. search needs) returns)

@@ -15,7 +15,7 @@ use Rattle.pool_sharing.proofs.remainders_of.Statement.{statement}
 use Rattle.pool_sharing.proofs.remainders_of.Tie as tie
 
 abbrev Inv-loop : tie.InvT-loop
-Inv-loop pool whole weights rems₀ i₀ rems i = (i ≤ bidderLimit) × (rems ≡ filled (remainderOf pool whole) weights bidderLimit 0 i)
+Inv-loop pool whole weights rems₀ i₀ rems i = (i ≤ bidderLimit) × (rems ≡ filled (remainderOf (pool .0) whole) weights bidderLimit 0 i)
 
 abbrev μ-loop : tie.MeasureT-loop
 μ-loop pool whole weights rems₀ i₀ rems i = bidderLimit - i
@@ -35,15 +35,15 @@ loop-again c =
     let at = c .before .before .loop in (
       search needs,
       ap (λ (l : List ℕ). set l (at .i) (c .remainder-of .result)) (at .inv .1)
-          ∙ ap (set (filled (remainderOf (a .pool) (a .whole)) (a .t3) bidderLimit 0 (at .i)) (at .i)) (c .remainder-of .ensures)
-          ∙ fill-next (remainderOf (a .pool) (a .whole)) (a .t3) bidderLimit 0 (at .i) 0 (search needs) (search needs),
+          ∙ ap (set (filled (remainderOf (a .pool .0) (a .whole)) (a .t3) bidderLimit 0 (at .i)) (at .i)) (c .remainder-of .ensures)
+          ∙ fill-next (remainderOf (a .pool .0) (a .whole)) (a .t3) bidderLimit 0 (at .i) 0 (search needs) (search needs),
     )
 
 returns : tie.Need-returns Inv-loop μ-loop
 returns c =
     let a = c .before .before .args in
     let at = c .before .loop in
-    at .inv .1 ∙ all-filled (remainderOf (a .pool) (a .whole)) (a .t3) bidderLimit (at .i) (search needs) (search needs) (search needs)
+    at .inv .1 ∙ all-filled (remainderOf (a .pool .0) (a .whole)) (a .t3) bidderLimit (at .i) (search needs) (search needs) (search needs)
 
 pub remainders-of-spec : {M : Type 1} → statement M
 remainders-of-spec =

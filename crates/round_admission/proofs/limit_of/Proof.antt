@@ -12,10 +12,10 @@ returns : tie.Need-returns
 returns c = let x = c .before .before .before .before .before .before .before .args .bidder in
     ap (_* (x .cash .0 + x .letter .0 - x .hold .0)) (c .before .before .before .multiplier-of .ensures)
 
-mul-result : tie.Need-mul-result
-mul-result c = let start = c .before .before .before .before .before .before .before in
+mul-limit : tie.Need-mul-limit
+mul-limit c = let start = c .before .before .before .before .before .before .before in
     record { fits = omega (arith, returns c, limit-within (start .args .bidder) (start .pre)) }
 
 pub limit-of-spec : {M : Type 1} → statement M
 limit-of-spec =
-    tie.close (tie.spec (λ c κs. search needs) (λ c. search needs) (λ c. search needs) mul-result returns)
+    tie.close (tie.spec (λ c κs. search needs) (λ c. search needs) (λ c. search needs) mul-limit returns)

@@ -7,14 +7,15 @@ use mathlib.Core.List.{List}
 use Prim.Native.Nat.{ℕ, _≤_, _-_}
 use lib.ListN.{set}
 use Rattle.market.proofs.Filled.{filled, fill-next, all-filled}
-use Rattle.market.specs.Books.{noBidder}
+use Rattle.market.proofs.KindLaws.{map-set}
+use Rattle.market.specs.Books.{inCents, noBidder}
 use Rattle.market.specs.Limits.{bidderLimit}
 use Rattle.round_admission.specs.Admission.{biddingLimit}
 use Rattle.round_admission.proofs.limits_of.Statement.{statement}
 use Rattle.round_admission.proofs.limits_of.Tie as tie
 
 abbrev Inv-loop : tie.InvT-loop
-Inv-loop bidders limits₀ i₀ limits i = (i ≤ bidderLimit) × (limits ≡ filled biddingLimit bidders bidderLimit 0 i)
+Inv-loop bidders limits₀ i₀ limits i = (i ≤ bidderLimit) × (inCents limits ≡ filled biddingLimit bidders bidderLimit 0 i)
 
 abbrev μ-loop : tie.MeasureT-loop
 μ-loop bidders limits₀ i₀ limits i = bidderLimit - i
@@ -29,7 +30,8 @@ loop-again : tie.Need-loop-again Inv-loop μ-loop
 loop-again c = let bidders = c .before .before .before .before .args .t1 in
     let at = c .before .before .before .loop in (
       search needs,
-      ap (λ (l : List ℕ). set l (at .i) (c .limit-of .result)) (at .inv .1)
+      map-set (λ x. x .0) (at .limits) (at .i) (c .limit-of .result)
+          ∙ ap (λ (l : List ℕ). set l (at .i) (c .limit-of .result .0)) (at .inv .1)
           ∙ ap (set (filled biddingLimit bidders bidderLimit 0 (at .i)) (at .i)) (c .limit-of .ensures)
           ∙ fill-next biddingLimit bidders bidderLimit 0 (at .i) noBidder (search needs) (search needs),
     )

@@ -5,6 +5,7 @@ use native.Mathlib.Omega.{arith}
 use mathlib.Core.Path.{_∙_, ap}
 use mathlib.Core.List.{List}
 use lib.ListN.{length}
+use Rattle.market.specs.Books.{inMegawatts}
 use Rattle.round_bids.specs.Bids.{bidsOf}
 use Rattle.round_award_rules.specs.Awards.{Claim, inOrder, walk, claimsOf, awardsOf}
 use Rattle.round_order.proofs.FirstLaws.{length-order}
@@ -30,7 +31,7 @@ unfolding awardsOf
 returns c = let awarded = c .before .before in
     let called = awarded .before .before .before .before in
     let from = called .before .before .before .before .before in
-    let is = ap (λ (ls : List Claim). walk (from .args .offered) (inOrder ls)) (called .start .ensures .1) in
+    let is = ap (λ (ls : List Claim). walk (inMegawatts (from .args .offered)) (inOrder ls)) (called .start .ensures .1) in
     let e = awarded .award .ensures in
     (e .0 ∙ ap wonTable is, (e .1 .0 ∙ ap soldTable is, (e .1 .1 ∙ ap priceTable is, awarded .award .kept .1 .1 .1 .1 .0 ∙ called .start .kept .1 .1 .1 .0)))
 

@@ -10,9 +10,8 @@ use Rattle.round_bidders.proofs.bill.Statement.{statement}
 use Rattle.round_bidders.proofs.bill.Tie as tie
 
 add-due : tie.Need-add-due
-add-due c = let a = c .before .before .before .before .before .args in
-    let pre = c .before .before .before .before .before .pre in
-    record { fits = omega (arith, pre .0 .owed, leb-true (a .charges) (bidLimit * laminationValueLimit) (pre .1)) }
+add-due c = let start = c .before .before .before .before .before .before in
+    record { fits = omega (arith, start .pre .0 .owed, leb-true (start .args .charges .0) (bidLimit * laminationValueLimit) (start .pre .1)) }
 
 returns : tie.Need-returns
 returns c = rw (c .least2 .ensures, c .before .before .before .least .ensures)

@@ -3,10 +3,12 @@
 -- won; the room for all entries leaves room for this one (`room-here`).
 use borrow.Author.Needs.{needs}
 use native.Mathlib.Omega.{arith}
-use mathlib.Core.Path.{_≡_, refl, _∙_, ap}
+use mathlib.Core.Path.{_≡_, refl, sym, _∙_, ap₂}
 use mathlib.Core.List.{List, []}
 use Prim.Native.Nat.{ℕ, _-_, _≤_, _<_}
 use lib.ListN.{length, getD}
+use Rattle.market.proofs.KindLaws.{megawatts-at}
+use Rattle.market.specs.Books.{megawatts, inMegawatts}
 use Rattle.market.specs.Limits.{pathLimit, bidLimit}
 use Rattle.market.specs.declared.book.Entry.{Entry}
 use Rattle.round_bids.proofs.BidLaws.{fits-list}
@@ -19,20 +21,21 @@ use Rattle.round_entries.proofs.add_entries.Statement.{statement}
 use Rattle.round_entries.proofs.add_entries.Tie as tie
 
 abbrev Inv-loop : tie.InvT-loop
-Inv-loop words won period register₀ counted count₀ k₀ at₀ register count k at = (length register ≡ length register₀) × AddedTo words won period register₀ counted register count k at
+Inv-loop words period register₀ counted won count₀ k₀ at₀ register count k at =
+    (length register ≡ length register₀) × AddedTo words (inMegawatts won) period register₀ counted register count k at
 
 abbrev μ-loop : tie.MeasureT-loop
-μ-loop words won period register₀ counted count₀ k₀ at₀ register count k at = length words - at
+μ-loop words period register₀ counted won count₀ k₀ at₀ register count k at = length words - at
 
 loop-holds : tie.Need-loop-holds Inv-loop μ-loop
-loop-holds c = let a = c .before .before .before .args in
-    let pre = c .before .before .before .pre in
-    (refl, none-added (a .words .now) (a .won .now) (a .period) (a .register .now) (a .counted) (pre .0 .sound) (omega (arith, pre .1 .1)))
+loop-holds c = let a = c .before .before .args in
+    let pre = c .before .before .pre in
+    (refl, none-added (a .words .now) (inMegawatts (a .t2)) (a .period) (a .register .now) (a .counted) (pre .0 .sound) (omega (arith, pre .1)))
 
 -- the bid in hand fits the list, and its number is below the limit
 module _ (p : tie.In-loop Inv-loop μ-loop) where
   abbrev start : tie.Start Inv-loop μ-loop
-  start = p .before .before .before .before .before
+  start = p .before .before .before .before
 
   abbrev words : List ℕ
   words = start .args .words .now
@@ -48,17 +51,20 @@ module _ (p : tie.After-header-at Inv-loop μ-loop) where
   abbrev here : tie.In-loop Inv-loop μ-loop
   here = p .before
 
-  abbrev entry : Header → Entry
-  entry h =
-      entryOf (start here .args .period) (getD (start here .args .won .now) (here .before .loop .k) 0)
-      (record { bidder = h .bidder; path = h .path; stamp = 0; laminations = [] })
+  abbrev entry : ℕ → Header → Entry
+  entry won h = entryOf (start here .args .period) won (record { bidder = h .bidder; path = h .path; stamp = 0; laminations = [] })
 
-  entry-is : entry (p .header-at .result) ≡ entry (headerAt (words here) (here .before .loop .at))
-  entry-is = ap entry (p .header-at .ensures)
+  abbrev bid : ℕ
+  bid = here .before .loop .k
+
+  entry-is :
+      entry (getD (start here .args .t2) bid (megawatts 0) .0) (p .header-at .result)
+      ≡ entry (getD (inMegawatts (start here .args .t2)) bid 0) (headerAt (words here) (here .before .loop .at))
+  entry-is = ap₂ entry (sym (megawatts-at (start here .args .t2) bid)) (p .header-at .ensures)
 
 add-if-won-requires : tie.Need-add-if-won-requires Inv-loop μ-loop
 add-if-won-requires c κs = let p = c .before .before .before in
-    let pre = start p .pre .1 .1 in
+    let pre = start p .pre .1 in
     let room = room-here (p .before .loop .inv .1) (p .loop-test .taken) _ (entry-is (c .before .before)) (pre .0) in
     omega (arith, room, p .before .loop .inv .0, pre .1)
 
@@ -82,8 +88,8 @@ add-entries-spec =
     μ-loop
     loop-holds
     (λ c κs. omega (arith, fits c))
-    (λ c. search needs)
-    (λ c. let p = c .before .before in omega (arith, below p, start p .pre .1 .0))
+    (λ c. omega (arith, below (c .before)))
+    (λ c. below (c .before))
     add-if-won-requires
     (λ c. record { fits = omega (arith, below (c .before .before .before .before .before .before)) })
     (λ c κs. fits (c .before .before .before .before .before .before))

@@ -7,7 +7,8 @@ use mathlib.Core.List.{List}
 use Prim.Native.Nat.{ℕ, _≤_, _-_}
 use lib.ListN.{set}
 use Rattle.market.proofs.Filled.{filled, fill-next}
-use Rattle.market.specs.Books.{noPath}
+use Rattle.market.proofs.KindLaws.{map-set}
+use Rattle.market.specs.Books.{inMegawatts, noPath}
 use Rattle.market.specs.Limits.{pathLimit}
 use Rattle.market.specs.declared.units.Megawatts.{Megawatts}
 use Rattle.call_open_offers.specs.Offers.{roundOffer}
@@ -15,7 +16,7 @@ use Rattle.round_paths.proofs.offered_by.Statement.{statement}
 use Rattle.round_paths.proofs.offered_by.Tie as tie
 
 abbrev Inv-loop : tie.InvT-loop
-Inv-loop kind round count paths offered₀ i₀ offered i = (i ≤ count) × (offered ≡ filled (roundOffer kind round) paths pathLimit 0 i)
+Inv-loop kind round count paths offered₀ i₀ offered i = (i ≤ count) × (inMegawatts offered ≡ filled (roundOffer kind round) paths pathLimit 0 i)
 
 abbrev μ-loop : tie.MeasureT-loop
 μ-loop kind round count paths offered₀ i₀ offered i = count - i
@@ -28,7 +29,8 @@ loop-again c = let a = c .before .before .before .before .args in
     let at = c .before .before .before .loop in
     let f = roundOffer (a .kind) (a .round) in (
       search needs,
-      ap (λ (l : List ℕ). set l (at .i) (c .offered-in .result .0)) (at .inv .1)
+      map-set (λ x. x .0) (at .offered) (at .i) (c .offered-in .result)
+          ∙ ap (λ (l : List ℕ). set l (at .i) (c .offered-in .result .0)) (at .inv .1)
           ∙ ap (set (filled f (a .t3) pathLimit 0 (at .i)) (at .i)) (ap (λ (m : Megawatts). m .0) (c .offered-in .ensures))
           ∙ fill-next f (a .t3) pathLimit 0 (at .i) noPath (search needs) (search needs),
     )

@@ -16,12 +16,14 @@ slice-write-answers-3 : tie.Need-slice-write-answers-3
 slice-write-answers-3 c = simp length-set (omega arith)
 
 returns : tie.Need-returns
-returns c = let a = c .args in three-stores (a .answers .now) (a .i * pathAnswerSize) (a .offered) (a .sold) (a .price) (omega arith)
+returns c = let a = c .before .before .args in three-stores (a .answers .now) (a .i * pathAnswerSize) (a .offered .0) (a .sold .0) (a .price .0) (omega arith)
 
 pub put-row-spec : {M : Type 1} → statement M
 put-row-spec =
     tie.close
     (tie.spec
+    (λ c. search needs)
+    (λ c. search needs)
     (λ c. search needs)
     (λ c. search needs)
     (λ c. search needs)

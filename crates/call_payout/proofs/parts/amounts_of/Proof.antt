@@ -2,21 +2,25 @@
 -- is their sum, at most what `i` entries can earn, so all sums fit (sum-fits). At the end the amounts are the rule's,
 -- since each rate is the rule's (credits-same).
 use borrow.Author.Needs.{needs}
-use mathlib.Core.Path.{_≡_, refl, sym, _∙_, ap, ap₂}
+use mathlib.Core.Path.{_≡_, refl, sym, _∙_, ap, ap₂, subst}
+use mathlib.Core.Bool.{cond}
 use mathlib.Core.List.{List}
 use Prim.Native.Nat.{ℕ, _+_, _*_, _-_, _≤_, _<_}
 use native.Mathlib.Omega.{arith}
-use lib.ListN.{length, replicate}
+use lib.ListN.{length, getD, replicate}
 use Rattle.market.proofs.SoundLaws.{zone-within, sound-parts, count-within}
-use Rattle.market.specs.Books.{credit}
+use Rattle.market.proofs.KindLaws.{cents-at}
+use Rattle.market.specs.Books.{cents, inCents, credit}
 use Rattle.market.specs.Limits.{bidderLimit, pathLimit, quantityLimit, zonePriceLimit, accountLimit}
 use Rattle.market.specs.declared.book.Entry.{Entry}
+use Rattle.market.specs.declared.units.Cents.{Cents}
 use Rattle.register.proofs.EntryLaws.{EntryBounds}
 use Rattle.register.specs.Words.{entryAt, entriesOf}
+use Rattle.pool_sharing.proofs.Loops.{numbers-long, cents-added}
 use Rattle.pool_sharing.specs.Sharing.{total}
-use Rattle.call_payout.proofs.EarningLaws.{credited-more, credit-total, credit-length}
+use Rattle.call_payout.proofs.EarningLaws.{credited-more, credit-total}
 use Rattle.call_payout.proofs.RateLaws.{earnedBy, bounds, rate-low, credits-same, sum-fits, amount-fits}
-use Rattle.call_payout.specs.Payout.{credited, amountsOf}
+use Rattle.call_payout.specs.Payout.{paysOn, credited, amountsOf}
 use Rattle.call_payout.proofs.parts.amounts_of.Statement.{statement}
 use Rattle.call_payout.proofs.parts.amounts_of.Tie as tie
 
@@ -24,8 +28,8 @@ abbrev Inv-loop : tie.InvT-loop
 Inv-loop words day failed prices rates amounts₀ total₀ count i₀ amounts sum i =
     (i ≤ count)
     × ((length amounts ≡ bidderLimit)
-    × ((amounts ≡ credited (earnedBy day rates) (replicate bidderLimit 0) (entriesOf words i))
-    × ((sum ≡ total amounts) × (sum ≤ i * (quantityLimit * zonePriceLimit)))))
+    × ((inCents amounts ≡ credited (earnedBy day (inCents rates)) (replicate bidderLimit 0) (entriesOf words i))
+    × ((sum ≡ total (inCents amounts)) × (sum ≤ i * (quantityLimit * zonePriceLimit)))))
 
 abbrev μ-loop : tie.MeasureT-loop
 μ-loop words day failed prices rates amounts₀ total₀ count i₀ amounts sum i = count - i
@@ -55,62 +59,89 @@ module _ (p : tie.After-read Inv-loop μ-loop) where
   within : EntryBounds (start .args .book .«path_count») (entryAt (start .args .words .now) (turn .loop .i))
   within = bounds (start .args .book) (start .args .words .now) (start .pre .0) (turn .loop .i) (p .before .loop-test .taken)
 
+  path-below : p .read .result .path < pathLimit
+  path-below = rw (p .read .ensures) (omega (arith, within .path, paths-few start))
+
   bidder-below : p .read .result .bidder < bidderLimit
   bidder-below = rw (p .read .ensures) (within .bidder)
 
-earned-by-requires : tie.Need-earned-by-requires Inv-loop μ-loop
-earned-by-requires c κs =
-    let p = c .before in
-    let s = start p in
-    let rates = turn p .before .rates-of in
-    let is = p .read .ensures in (
-      rw is (omega (arith, within p .path, paths-few s)),
-      (
-        rw is (within p .quantity),
-        rw is
-            (rate-low (s .args .book) (s .args .words .now) (s .pre .0) (turn p .loop .i) (p .before .loop-test .taken) (s .args .failed) (s .args .prices .now)
-            (rates .result) (rates .ensures) (s .pre .1)),
-      ),
-    )
+-- what one MW earns on the entry's path
+module _ (p : tie.After-earned-by-arg Inv-loop μ-loop) where
+  abbrev here : tie.After-read Inv-loop μ-loop
+  here = p .before .before
 
--- the total with what the entry in hand earns
-sum-within : (p : tie.After-earned-by Inv-loop μ-loop) → turn (p .before .before) .loop .total + p .earned-by .result ≤ accountLimit
-sum-within p =
-    let e = p .before .before in
-    let at = turn e .loop in
-    sum-fits (at .i) (start e .args .book .entries) (at .total) (p .earned-by .result) (e .before .loop-test .taken) (start e .pre .0 .count) (at .inv .1 .1 .1 .1) (p .earned-by .ensures .1)
+  abbrev rates : List Cents
+  rates = turn here .before .rates-of .result
 
-add-more : tie.Need-add-more Inv-loop μ-loop
-add-more c =
-    let p = c .before .before .before in
-    let at = turn p .loop in
-    record { fits = omega (arith, amount-fits (at .amounts) (p .read .result .bidder) (at .total) (c .before .earned-by .result) (at .inv .1 .1 .1 .0) (sum-within (c .before))) }
+  rate-within : getD rates (here .read .result .path) (cents 0) .0 ≤ zonePriceLimit
+  rate-within =
+      let s = start here in
+      let low = rate-low (s .args .book) (s .args .words .now) (s .pre .0) (turn here .loop .i) (here .before .loop-test .taken) (s .args .failed) (s .args .prices .now)
+      (inCents rates) (turn here .before .rates-of .ensures) (s .pre .1) in
+      subst (λ (e : Entry). getD rates (e .path) (cents 0) .0 ≤ zonePriceLimit) (sym (here .read .ensures))
+      (omega (arith, low, cents-at rates (entryAt (s .args .words .now) (turn here .loop .i) .path)))
+
+-- what the entry in hand earns, and the total with it
+module _ (p : tie.After-earned-by Inv-loop μ-loop) where
+  abbrev read : tie.After-read Inv-loop μ-loop
+  read = here (p .before)
+
+  abbrev earns : Entry → ℕ
+  earns = earnedBy (start read .args .day) (inCents (rates (p .before)))
+
+  earned-is : p .earned-by .result .0 ≡ earns (entryAt (start read .args .words .now) (turn read .loop .i))
+  earned-is =
+      let e = read .read .result in
+      ap (λ (x : Cents). x .0) (p .earned-by .ensures .0)
+      ∙ ap (λ (n : ℕ). cond (paysOn (start read .args .day) e) (e .quantity .0 * n) 0) (sym (cents-at (rates (p .before)) (e .path)))
+      ∙ ap earns (read .read .ensures)
+
+  sum-within : turn read .loop .total + p .earned-by .result .0 ≤ accountLimit
+  sum-within =
+      let at = turn read .loop in
+      sum-fits (at .i) (start read .args .book .entries) (at .total) (p .earned-by .result .0) (read .before .loop-test .taken) (start read .pre .0 .count) (at .inv .1 .1 .1 .1)
+      (p .earned-by .ensures .1)
+
+add-t26 : tie.Need-add-t26 Inv-loop μ-loop
+add-t26 c =
+    let p = c .before .before .before .before in
+    let at = turn (read p) .loop in
+    let bidder = read p .read .result .bidder in
+    let fits = amount-fits (inCents (at .amounts)) bidder (at .total) (p .earned-by .result .0) (at .inv .1 .1 .1 .0) (sum-within p) in
+    record { fits = omega (arith, fits, cents-at (at .amounts) bidder) }
+
+add-i : tie.Need-add-i Inv-loop μ-loop
+add-i c =
+    let p = read (c .before .before .before .before .before) in
+    record { fits = omega (arith, p .before .loop-test .taken, start p .pre .0 .count) }
 
 loop-again : tie.Need-loop-again Inv-loop μ-loop
 loop-again c =
-    let p = c .before .before .before in
-    let s = start p in
+    let p = c .before .before .before .before .before in
+    let s = start (read p) in
     let w = s .args .words .now in
-    let at = turn p .loop in
-    let earns = earnedBy (s .args .day) (turn p .before .rates-of .result) in
+    let at = turn (read p) .loop in
     let zeros : List ℕ = replicate bidderLimit 0 in
-    let before = credited earns zeros (entriesOf w (at .i)) in
-    let e = p .read .result in
-    let cents = c .before .earned-by .result in
-    let added = credit-total (at .amounts) (e .bidder) cents (omega (arith, bidder-below p, at .inv .1 .0)) in
+    let before = credited (earns p) zeros (entriesOf w (at .i)) in
+    let e = read p .read .result in
+    let more = p .earned-by .result .0 in
+    let numbers = inCents (at .amounts) in
+    let stored = cents-added (at .amounts) (e .bidder) more in
+    let added = credit-total numbers (e .bidder) more (omega (arith, bidder-below (read p), numbers-long (at .amounts) bidderLimit (at .inv .1 .0))) in
     let amounts =
-    ap₂ (λ (l : List ℕ) (x : ℕ). credit l (e .bidder) x) (at .inv .1 .1 .0) (c .before .earned-by .ensures .0)
-    ∙ ap (λ (x : Entry). credit before (x .bidder) (earns x)) (p .read .ensures)
-    ∙ sym (credited-more earns zeros w (at .i))
+    stored
+    ∙ ap₂ (λ (l : List ℕ) (x : ℕ). credit l (e .bidder) x) (at .inv .1 .1 .0) (earned-is p)
+    ∙ ap (λ (x : Entry). credit before (x .bidder) (earns p (entryAt w (at .i)))) (read p .read .ensures)
+    ∙ sym (credited-more (earns p) zeros w (at .i))
     in (
       search needs,
       (
-        credit-length (at .amounts) (e .bidder) cents ∙ at .inv .1 .0,
+        search needs,
         (
           amounts,
           (
-            omega (arith, at .inv .1 .1 .1 .0, added),
-            omega (arith, at .inv .1 .1 .1 .1, c .before .earned-by .ensures .1),
+            omega (arith, at .inv .1 .1 .1 .0, added, ap total stored),
+            omega (arith, at .inv .1 .1 .1 .1, p .earned-by .ensures .1),
           ),
         ),
       ),
@@ -128,8 +159,8 @@ returns c =
     let zeros : List ℕ = replicate bidderLimit 0 in
     let amounts =
     at .inv .1 .1 .0
-    ∙ ap (λ (n : ℕ). credited (earnedBy (a .day) (rates .result)) zeros (entriesOf (a .words .now) n)) all
-    ∙ credits-same b (a .words .now) (s .pre .0) (a .failed) (a .prices .now) (rates .result) (rates .ensures) (a .day) zeros
+    ∙ ap (λ (n : ℕ). credited (earnedBy (a .day) (inCents (rates .result))) zeros (entriesOf (a .words .now) n)) all
+    ∙ credits-same b (a .words .now) (s .pre .0) (a .failed) (a .prices .now) (inCents (rates .result)) (rates .ensures) (a .day) zeros
     in
     (amounts, (at .inv .1 .1 .1 .0 ∙ ap total amounts, omega (arith, at .inv .1 .1 .1 .1, at .inv .0, s .pre .0 .count)))
 
@@ -142,16 +173,18 @@ amounts-of-spec =
     rates-of-requires
     loop-holds
     read-requires
+    (λ c. record { fits = omega (arith, path-below (c .before)) })
+    (λ c. record { fits = omega (arith, path-below (c .before)) })
+    (λ c. path-below (c .before))
+    (λ c κs. (rw (here c .read .ensures) (within (here c) .quantity), rate-within c))
     (λ c. search needs)
-    earned-by-requires
-    (λ c. search needs)
-    (λ c. record { fits = omega (arith, bidder-below (c .before .before .before)) })
-    (λ c. bidder-below (c .before .before .before))
-    add-more
-    (λ c. record { fits = omega (arith, bidder-below (c .before .before .before)) })
-    (λ c. bidder-below (c .before .before .before))
-    (λ c. record { fits = omega (arith, sum-within (c .before)) })
-    (λ c. search needs)
+    (λ c. record { fits = omega (arith, bidder-below (read (c .before))) })
+    (λ c. bidder-below (read (c .before)))
+    add-t26
+    (λ c. record { fits = omega (arith, bidder-below (read (c .before .before .before .before))) })
+    (λ c. bidder-below (read (c .before .before .before .before)))
+    (λ c. record { fits = omega (arith, sum-within (c .before .before .before .before .before)) })
+    add-i
     (λ c. search needs)
     loop-again
     returns)

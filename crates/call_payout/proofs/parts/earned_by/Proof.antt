@@ -13,27 +13,17 @@ returns c =
     let stays = sym (c .before .pays-on .ensures) ∙ not-true _ (c .if1 .taken) in
     (rw stays, omega arith)
 
-mul-result-2 : tie.Need-mul-result-2
-mul-result-2 c =
-    let pre = c .before .before .before .before .before .before .before .pre in
-    let within = product-within (pre .1 .0) (pre .1 .1) in
-    record { fits = omega arith }
+mul-t8 : tie.Need-mul-t8
+mul-t8 c =
+    let pre = c .before .before .before .before .before .pre in
+    record { fits = omega (arith, product-within (pre .0) (pre .1)) }
 
 returns-2 : tie.Need-returns-2
 returns-2 c =
-    let start = c .before .before .before .before .before .before .before in
-    let pays = sym (c .before .before .before .before .before .pays-on .ensures) ∙ not-false _ (c .before .before .before .before .if1 .left) in
-    (rw pays, product-within (start .pre .1 .0) (start .pre .1 .1))
+    let p = c .before .before .before in
+    let pre = p .before .before .pre in
+    let pays = sym (p .before .pays-on .ensures) ∙ not-false _ (p .if1 .left) in
+    (rw pays, product-within (pre .0) (pre .1))
 
 pub earned-by-spec : {M : Type 1} → statement M
-earned-by-spec =
-    tie.close
-    (tie.spec
-    (λ c κs. search needs)
-    returns
-    (λ c. search needs)
-    (λ c. search needs)
-    (λ c. search needs)
-    (λ c. search needs)
-    mul-result-2
-    returns-2)
+earned-by-spec = tie.close (tie.spec (λ c κs. search needs) returns (λ c. search needs) mul-t8 returns-2)

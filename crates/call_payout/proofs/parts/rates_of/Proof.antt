@@ -8,8 +8,10 @@ use mathlib.Core.List.{List}
 use Prim.Native.Nat.{ℕ, _≤_, _-_}
 use lib.ListN.{getD, set}
 use Rattle.market.proofs.Filled.{filled, fill-next}
-use Rattle.market.specs.Books.{noPath}
+use Rattle.market.proofs.KindLaws.{map-set}
+use Rattle.market.specs.Books.{noPath, inCents}
 use Rattle.market.specs.Limits.{pathLimit}
+use Rattle.market.specs.declared.units.Cents.{Cents}
 use Rattle.call_payout_hour.specs.Hours.{rate}
 use Rattle.call_payout_hour.specs.declared.Hour.{Hour}
 use Rattle.call_payout.proofs.EarningLaws.{hour-sound, filled-at}
@@ -18,7 +20,7 @@ use Rattle.call_payout.proofs.parts.rates_of.Statement.{statement}
 use Rattle.call_payout.proofs.parts.rates_of.Tie as tie
 
 abbrev Inv-loop : tie.InvT-loop
-Inv-loop count failed prices paths rates₀ i₀ rates i = (i ≤ count) × (rates ≡ filled (rateOn failed prices) paths pathLimit 0 i)
+Inv-loop count failed prices paths rates₀ i₀ rates i = (i ≤ count) × (inCents rates ≡ filled (rateOn failed prices) paths pathLimit 0 i)
 
 abbrev μ-loop : tie.MeasureT-loop
 μ-loop count failed prices paths rates₀ i₀ rates i = count - i
@@ -40,9 +42,10 @@ loop-again c =
     let at = c .before .before .before .before .loop in
     let f = rateOn (a .failed) (a .prices .now) in
     let path = getD (a .t1) (at .i) noPath in
-    let made = c .rate-of .ensures .0 ∙ ap (λ (h : Hour). rate h (path .direction)) (c .before .hour-at .ensures) in (
+    let made = ap (λ (x : Cents). x .0) (c .rate-of .ensures .0) ∙ ap (λ (h : Hour). rate h (path .direction)) (c .before .hour-at .ensures) in (
       search needs,
-      ap₂ (λ (l : List ℕ) (x : ℕ). set l (at .i) x) (at .inv .1) made
+      map-set (λ (x : Cents). x .0) (at .rates) (at .i) (c .rate-of .result)
+          ∙ ap₂ (λ (l : List ℕ) (x : ℕ). set l (at .i) x) (at .inv .1) made
           ∙ fill-next f (a .t1) pathLimit 0 (at .i) noPath (search needs) (search needs),
     )
 

@@ -2,6 +2,7 @@
 use native.Mathlib.Omega.{arith}
 use mathlib.Core.Path.{_∙_, ap}
 use lib.ListN.{length}
+use Rattle.market.specs.Books.{inMegawatts}
 use Rattle.market.specs.declared.book.Period.{Period}
 use Rattle.round_bids.specs.Bids.{bidsOf}
 use Rattle.round_entries.specs.Entries.{newEntries}
@@ -10,14 +11,15 @@ use Rattle.call_round.proofs.effect.add_winners.Statement.{statement}
 use Rattle.call_round.proofs.effect.add_winners.Tie as tie
 
 add-entries-requires : tie.Need-add-entries-requires
-add-entries-requires c κs = let start = c .before .before .before .before .before .before in
+add-entries-requires c κs = let start = c .before .before .before .before .before in
     let pre = start .pre in
-    let same = ap (λ (p : Period). length (newEntries p (start .args .awarded .won) (bidsOf (start .args .bids .now)))) (c .before .before .period-of .ensures) in
-    (pre .0, (omega (arith, pre .1 .0), (omega (arith, same, pre .1 .1 .0), pre .1 .1 .1)))
+    let won = inMegawatts (start .args .awarded .won) in
+    let same = ap (λ (p : Period). length (newEntries p won (bidsOf (start .args .bids .now)))) (c .before .period-of .ensures) in
+    (pre .0, (omega (arith, same, pre .1 .0), pre .1 .1))
 
 returns : tie.Need-returns
 returns c = let add = c .before .before .add-entries .ensures in
-    let period = c .before .before .before .before .before .period-of .ensures in
+    let period = c .before .before .before .before .period-of .ensures in
     (add .0 ∙ rw period, add .1 ∙ rw period)
 
 pub add-winners-spec : {M : Type 1} → statement M
@@ -25,7 +27,6 @@ add-winners-spec =
     tie.close
     (tie.spec
     (λ c κs. search needs)
-    (λ c. search needs)
     add-entries-requires
     (λ c. search needs)
     returns)
