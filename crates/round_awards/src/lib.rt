@@ -4,17 +4,16 @@ use market::units::Cents;
 use market::units::Megawatts;
 ghost use mathlib.Core.Path.{_≡_};
 ghost use mathlib.Core.Bool.{true, cond};
-ghost use mathlib.Core.List.{map};
 ghost use Prim.Native.Nat.{_≤_, min};
 ghost use lib.Dec.{ltb};
-ghost use lib.ListN.{length, take};
+ghost use lib.ListN.{length};
 ghost use Rattle.market.specs.Books.{every, inCents, inMegawatts};
 ghost use Rattle.market.specs.Limits.{bidLimit, scratchWords};
 ghost use Rattle.market.specs.Sound.{soundQuantity};
-ghost use Rattle.round_award_rules.specs.Awards.{lower, walk, awardsOf};
+ghost use Rattle.round_award_rules.specs.Awards.{inOrder, lower, walk, awardsOf};
 ghost use Rattle.round_bids.specs.BidRefusals.{BidList};
 ghost use Rattle.round_bids.specs.Bids.{bidsOf};
-ghost use Rattle.round_claims.specs.Packed.{claimIn, claimFits};
+ghost use Rattle.round_order.specs.Tree.{claimsLeft, Tree};
 ghost use Rattle.round_awards.specs.Tables.{wonTable, soldTable, priceTable};
 
 // The MW that each bid won, the MW sold of each path, and its clearing price, 0 where there is none.
@@ -60,31 +59,32 @@ fn price_at(taken: Megawatts, price: Cents) -> Cents
     Cents(0)
 }
 
-// The awards of the laminations in the first `claims` words of `order`, which are in order. `offered` has what the round
-// offers of each path, and `left` what is left of it.
+// The awards of the laminations in a tree, in order; `first` has the one that comes first. `offered` has what the round offers of
+// each path, and `left` what is left of it.
 fn award(
     words: &[u32],
-    order: &[u32],
-    claims: usize,
+    count: usize,
+    first: u32,
     offered: [Megawatts; Engine::PATHS],
+    tree: &mut [u32],
 ) -> Awarded
-    requires { ⌜ claims ≤ length (now order) ⌝ }
-    requires { ⌜ claims ≤ scratchWords ⌝ }
-    requires { ⌜ every (claimFits (now words)) (take claims (now order)) ≡ true ⌝ }
+    requires { ⌜ Tree (now words) count (now tree) first ⌝ }
+    requires { ⌜ length (inOrder (claimsLeft (now words) count (now tree))) ≤ scratchWords ⌝ }
     requires { ⌜ every soundQuantity (inMegawatts offered) ≡ true ⌝ }
     ensures won { λ r. ⌜ inMegawatts (r .won)
-        ≡ wonTable (walk (inMegawatts offered) (map (claimIn (now (words .entry))) (take claims (now (order .entry))))) ⌝ }
+        ≡ wonTable (walk (inMegawatts offered) (inOrder (claimsLeft (now (words .entry)) count (now (tree .entry))))) ⌝ }
     ensures sold { λ r. ⌜ inMegawatts (r .sold)
-        ≡ soldTable (walk (inMegawatts offered) (map (claimIn (now (words .entry))) (take claims (now (order .entry))))) ⌝ }
+        ≡ soldTable (walk (inMegawatts offered) (inOrder (claimsLeft (now (words .entry)) count (now (tree .entry))))) ⌝ }
     ensures prices { λ r. ⌜ inCents (r .prices)
-        ≡ priceTable (walk (inMegawatts offered) (map (claimIn (now (words .entry))) (take claims (now (order .entry))))) ⌝ }
+        ≡ priceTable (walk (inMegawatts offered) (inOrder (claimsLeft (now (words .entry)) count (now (tree .entry))))) ⌝ }
 {
     let mut left = offered;
     let mut won = [Megawatts(0); Engine::BIDS];
     let mut sold = [Megawatts(0); Engine::PATHS];
     let mut prices = [Cents(0); Engine::PATHS];
-    for i in 0..claims {
-        let claim = round_claims::claim_in(words, order[i]);
+    let mut word = first;
+    while word != 0 {
+        let claim = round_claims::claim_in(words, word);
         let quantity = claim.quantity;
         let price = claim.price;
         let bid = claim.bid;
@@ -101,6 +101,7 @@ fn award(
         won[bid] = Megawatts(won_now);
         sold[path] = Megawatts(sold_now);
         prices[path] = lowest;
+        word = round_order::next(words, count, word, tree);
     }
     Awarded { won, sold, prices }
 }
@@ -126,6 +127,6 @@ pub fn award_bids(
         inCents (r .prices) ≡ priceTable (awardsOf (inMegawatts offered) (bidsOf (now (words .entry))) (now (marks .entry))) ⌝ }
     ensures scratch { λ r. ⌜ length (now (scratch .exit)) ≡ length (now (scratch .entry)) ⌝ }
 {
-    let claims = round_order::order(words, marks, count, scratch);
-    award(words, scratch, claims, offered)
+    let first = round_order::start(words, marks, count, scratch);
+    award(words, count, first, offered, scratch)
 }

@@ -1,4 +1,2 @@
 -- Laws about claims, each in one word.
-pub mod OneBid
 pub mod PackedLaws
-pub mod PutLaws

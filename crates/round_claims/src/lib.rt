@@ -5,12 +5,10 @@ use market::units::Megawatts;
 ghost use mathlib.Core.Path.{_≡_};
 ghost use mathlib.Core.Bool.{true};
 ghost use Prim.Native.Nat.{_+_, _*_, _≤_, _<_};
-ghost use lib.ListN.{length, take, getD};
+ghost use lib.ListN.{length, getD};
 ghost use Rattle.market.specs.Limits.{pathLimit, bidLimit, bidListWords, headerWords, pairWords};
 ghost use Rattle.round_bids.specs.BidRefusals.{soundBidAt};
-ghost use Rattle.round_bids.specs.Bids.{bidAt};
-ghost use Rattle.round_award_rules.specs.Awards.{claimsOfBid};
-ghost use Rattle.round_claims.specs.Packed.{packed, packedFrom, placeIn, claimIn, claimsBetween};
+ghost use Rattle.round_claims.specs.Packed.{moreLimit, packed, placeIn, claimIn, firstWord, nextWord};
 
 // A claim, which is a lamination of an admitted bid: the bid's number, its path, and the pair.
 pub struct Claim {
@@ -20,19 +18,23 @@ pub struct Claim {
     pub quantity: Megawatts,
 }
 
-// A claim as one word of the scratch.
-fn pack(bid: usize, path: u32, place: usize) -> u32
+// Fewer claims of a bid than this come after its first one.
+const MORE: usize = 32;
+
+// A claim as one word of the scratch; `more` claims of its bid come after it.
+fn pack(bid: usize, path: u32, more: u32, place: usize) -> u32
     requires { ⌜ bid < bidLimit ⌝ }
     requires { ⌜ path < pathLimit ⌝ }
+    requires { ⌜ more < moreLimit ⌝ }
     requires { ⌜ place < bidListWords ⌝ }
-    ensures { λ r. ⌜ r ≡ packed bid path place ⌝ }
+    ensures { λ r. ⌜ r ≡ packed bid path more place ⌝ }
 {
-    let of = bid * Engine::PATHS + (path as usize);
+    let of = (bid * Engine::PATHS + (path as usize)) * MORE + (more as usize);
     (of * Engine::BID_LIST_WORDS + place) as u32
 }
 
 // The place, in the bid list, of the pair of the claim in a word of the scratch.
-fn place_in(word: u32) -> usize
+pub fn place_in(word: u32) -> usize
     ensures { λ r. ⌜ r ≡ placeIn word ⌝ }
 {
     (word as usize) % Engine::BID_LIST_WORDS
@@ -47,7 +49,7 @@ pub fn claim_in(words: &[u32], word: u32) -> Claim
     ensures quantity { λ r. ⌜ r .quantity .0 ≡ claimIn (now (words .entry)) word .quantity ⌝ }
     ensures within { λ r. ⌜ r .path < pathLimit ⌝ }
 {
-    let of = (word as usize) / Engine::BID_LIST_WORDS;
+    let of = (word as usize) / Engine::BID_LIST_WORDS / MORE;
     let pair = round_bids::lamination_at(words, place_in(word));
     let price = pair.price;
     let quantity = pair.quantity;
@@ -59,38 +61,33 @@ pub fn claim_in(words: &[u32], word: u32) -> Claim
     }
 }
 
-// Puts `count` claims of one bid at the front of `order`; `place` is the place of the first claim's pair.
-fn put_claims(bid: usize, path: u32, place: usize, count: usize, order: &mut [u32])
-    requires { ⌜ bid < bidLimit ⌝ }
-    requires { ⌜ path < pathLimit ⌝ }
-    requires { ⌜ place + count * pairWords ≤ bidListWords ⌝ }
-    requires { ⌜ count ≤ length (now order) ⌝ }
-    ensures { λ _. ⌜ take count (now (order .exit)) ≡ packedFrom bid path place count ⌝ }
-{
-    let mut i: usize = 0;
-    while i < count {
-        let word = pack(bid, path, place + i * Engine::PAIR_WORDS);
-        order[i] = word;
-        i += 1;
-    }
-}
-
-// Puts the claims of the bid that begins at `at` at the front of `order`, if the bid is admitted, and returns their number.
-pub fn put_bid(words: &[u32], marks: &[u32], bid: usize, at: usize, order: &mut [u32]) -> usize
+// The word of the first claim of the bid that begins at `at`, 0 if the bid is not admitted.
+pub fn first_word(words: &[u32], marks: &[u32], bid: usize, at: usize) -> u32
     requires { ⌜ length (now words) ≤ bidListWords ⌝ }
     requires { ⌜ bidLimit ≤ length (now marks) ⌝ }
     requires { ⌜ bid * (headerWords + pairWords) ≤ at ⌝ }
     requires { ⌜ soundBidAt pathLimit (now words) at ≡ true ⌝ }
-    requires { ⌜ length (now words) ≤ at + length (now order) * pairWords ⌝ }
-    ensures claims { λ r. ⌜ r ≡ length (claimsOfBid bid at (bidAt (now (words .entry)) at) (getD (now (marks .entry)) bid 0)) ⌝ }
-    ensures written { λ r. ⌜
-        claimsBetween (now (words .entry)) (now (order .exit)) 0 r ≡ claimsOfBid bid at (bidAt (now (words .entry)) at) (getD (now (marks .entry)) bid 0) ⌝ }
+    ensures { λ r. ⌜ r ≡ firstWord (now (words .entry)) bid at (getD (now (marks .entry)) bid 0) ⌝ }
 {
     if marks[bid] == Engine::ADMITTED {
         let header = round_bids::header_at(words, at);
-        let count = header.count as usize;
-        put_claims(bid, header.path, at + Engine::HEADER_WORDS, count, order);
-        return count;
+        return pack(
+            bid,
+            header.path,
+            header.count - 1,
+            at + Engine::HEADER_WORDS,
+        );
     }
     0
+}
+
+// The word of the claim after the one in a word, 0 after the last claim of its bid.
+pub fn next_word(word: u32) -> u32
+    ensures { λ r. ⌜ r ≡ nextWord word ⌝ }
+{
+    let more = (word as usize) / Engine::BID_LIST_WORDS % MORE;
+    if more == 0 {
+        return 0;
+    }
+    word - (Engine::BID_LIST_WORDS as u32) + (Engine::PAIR_WORDS as u32)
 }

@@ -1,5 +1,7 @@
--- Laws about putting claims in order.
-pub mod MergeLaws
-pub mod BidLaws
-pub mod RunLaws
-pub mod HalfLaws
+-- Laws about the tree of claims and about the order that it gives.
+pub mod KeyLaws
+pub mod TreeLaws
+pub mod PlayLaws
+pub mod LeafLaws
+pub mod FirstLaws
+pub mod StepLaws
