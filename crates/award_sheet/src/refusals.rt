@@ -11,7 +11,7 @@ pub fn refused(out: &mut [u8], number: u32) -> usize
     requires { ⌜ awardSheetBytes ≤ length (now out) ⌝ }
     ensures { λ r. ⌜ Put (now (out .entry)) 0 (refusedText number) (now (out .exit)) r ⌝ }
 {
-    award_sheet_parts::refusals::put_refused(out, number)
+    award_sheet_writer::filled(award_sheet_writer::refused(award_sheet_writer::start(out), number))
 }
 
 // Writes the number of the first faulty line of a sheet.
@@ -19,5 +19,5 @@ pub fn faulty(out: &mut [u8], line: u32) -> usize
     requires { ⌜ awardSheetBytes ≤ length (now out) ⌝ }
     ensures { λ r. ⌜ Put (now (out .entry)) 0 (refusedLine formRefusal line) (now (out .exit)) r ⌝ }
 {
-    award_sheet_parts::refusals::put_faulty(out, line)
+    award_sheet_writer::filled(award_sheet_writer::faulty(award_sheet_writer::start(out), line))
 }

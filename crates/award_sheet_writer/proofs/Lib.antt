@@ -1,5 +1,5 @@
--- Laws about a writer and its buffer, held and lent.
+-- Laws about a writer and its buffer.
 pub mod Buffer
-pub mod Front
 pub mod Held
-pub mod Lent
+pub mod Numbered
+pub mod Taken

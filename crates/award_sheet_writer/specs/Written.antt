@@ -1,20 +1,20 @@
--- An award sheet after the next text is written on it.
+-- An award sheet being written, and after the next text is written on it.
 use mathlib.Core.List.{List}
 use Prim.Native.Nat.{ℕ, _+_}
 use lib.ListN.{length}
-use denote.Ref.{now, at-last}
+use denote.Ref.{RefT, now, at-last}
 use Rattle.text_numbers.specs.Put.{putAt}
 use Rattle.round_bids.specs.Bids.{bidsOf}
 use Rattle.award_sheet_round.specs.RoundLines.{roundText}
 use Rattle.award_sheet_writer.specs.declared.Writer.{Writer}
 
+-- a buffer on which nothing is written
+abbrev pub emptyWriter : RefT (List ℕ) → Writer
+emptyWriter out = record { out = out; filled = 0 }
+
 -- the same buffer with the text after what was filled; the text now counts as filled too
 abbrev pub writerAfter : Writer → List ℕ → Writer
 writerAfter w text = record { out = at-last (w .out) (putAt (now (w .out)) (w .filled) text); filled = w .filled + length text }
-
--- the same buffer with the text at its front; only the text counts as filled
-abbrev pub fronted : Writer → List ℕ → Writer
-fronted w text = record { out = at-last (w .out) (putAt (now (w .out)) 0 text); filled = length text }
 
 -- a round of the bids that these words encode, as it was answered
 abbrev pub answeredText : ℕ → List ℕ → List ℕ → List ℕ → List ℕ

@@ -1,5 +1,5 @@
 -- A line in three pieces: the word refused with its space, the refusal's number with its space (`field-piece`), and the
--- word line with its number. `written-next` adds the first two and `written-all` the last, from place 0.
+-- word line with its number. `written-next` adds the first two and `written-all` the last.
 use borrow.Author.Needs.{needs}
 use native.Mathlib.Omega.{arith}
 use mathlib.Core.Path.{refl, ap}
@@ -22,8 +22,8 @@ module _ (s : tie.Start) where
   abbrev behind : List ℕ
   behind = countLine lineWord (s .args .line)
 
-  begun : WrittenTo (s .args .out .now) 0 (refusedLine formRefusal (s .args .line)) (named ++ (fieldText formRefusal space ++ behind)) 0 (s .args .out .now)
-  begun = written-from (ap (λ (l : List ℕ). named ++ l) (field-piece (decimal formRefusal) space behind)) (omega (arith, s .pre))
+  begun : WrittenTo (s .args .out .now) (s .args .at) (refusedLine formRefusal (s .args .line)) (named ++ (fieldText formRefusal space ++ behind)) (s .args .at) (s .args .out .now)
+  begun = written-from (ap (λ (l : List ℕ). named ++ l) (field-piece (decimal formRefusal) space behind)) (s .pre)
 
 put-bytes-requires : tie.Need-put-bytes-requires
 put-bytes-requires c κs = written-fits (begun (c .before .before .before)) named _ refl
