@@ -1,5 +1,5 @@
--- What demand 3 says of a round that was answered. Its bids are those of the call's own words, and what it offered and admitted is
--- what the rules give, from the book before it: the answered lists are theirs too, word by word.
+-- What is promised of a round that was answered (rules 12.4 to 12.8). Its bids are those of the call's own words; what it offers and admits, and
+-- both answered lists, follow from the book before it.
 use mathlib.Core.Path.{_≡_}
 use mathlib.Core.Bool.{cond}
 use mathlib.Core.List.{List, [], _∷_}
@@ -18,42 +18,41 @@ use Rattle.promise.specs.Runs.{Made}
 
 -- ---- A round that was made
 
+-- the bids of the call's words
 abbrev pub bidsMade : Made → List Bid
 bidsMade m = bidsOf (m .request .lent .bids)
 
--- the laminations of the bids that the rules admit
+-- the pairs of the bids that the rules admit
 abbrev pub claimsMade : Made → List Claim
 claimsMade m = claimsOf (bidsMade m) (marksNow (m .before) (bidsMade m))
 
--- the MW of each bid, as answered
+-- the MW won by each bid, read from the answered list
 abbrev pub wonMade : Made → ℕ → ℕ
 wonMade m = wonIn (m .reply .lists .answers)
 
--- "each 1 admitted or 0 over, bid value, MW, charge" and "each offered and sold in this round, price or 0": both lists are the
--- rules', and the words past them those that were lent
+-- rule 12.4: both lists are those of rules 7.17 and 7.18, from the book before the round and the call's words; the words past them stay
 pub record ListsTold (m : Made) : Type 0 where
   pub bids : m .reply .lists .answers ≡ withFront (bidAnswersNow (m .before) (bidsMade m)) (m .request .lent .answers)
   pub paths : m .reply .lists .results ≡ withFront (pathAnswersNow (m .before) (bidsMade m)) (m .request .lent .results)
 
 -- ---- The award
 
--- "A rival award gives each lamination (pair) of an admitted bid 0 up to its own MW, no path more in all than the round offers"
+-- rule 12.5: a rival award gives a pair of an admitted bid at most the pair's MW, and on no path more than the round offers
 abbrev pub RivalOf : Made → Rival → Type 0
 RivalOf m gives = Legal (offeredNow (m .before)) (claimsMade m) gives
 
--- "in each answered round its total bid value is at least that of every rival award"; "the engine's fills a bid's laminations
--- in order with its answered MW"
+-- rule 12.7: no rival award has a total bid value above that of the engine's award
 abbrev pub NoRivalAbove : Made → Type 0
 NoRivalAbove m = (gives : Rival) → RivalOf m gives → rivalValue gives (claimsMade m) ≤ totalValue (wonMade m) (bidsMade m)
 
--- the engine's own award, filled in this way, is one of those that it is measured against, with that total bid value
+-- rule 12.6: the answered MW of each bid, given to its pairs from the first on, are a rival award too, with this total bid value
 pub record OwnAward (m : Made) : Type 0 where
   pub legal : RivalOf m (filledAward (wonMade m) (bidsMade m))
   pub value : rivalValue (filledAward (wonMade m) (bidsMade m)) (claimsMade m) ≡ totalValue (wonMade m) (bidsMade m)
 
 -- ---- The charges
 
--- "no bid is charged more than its bid value for what it won"
+-- rule 12.8: the charge of a bid is at most the sum of price × MW over its pairs, filled as rule 12.6 says
 abbrev pub BidsWithin : Made → Type 0
 BidsWithin m =
     (bid : ℕ) (none : Bid) →
@@ -66,7 +65,7 @@ ofBidder bidder amount bid [] = 0
 ofBidder bidder amount bid (b ∷ bs) =
     cond (eqb (b .bidder) bidder) (amount bid b) 0 + ofBidder bidder amount (bid + 1) bs
 
--- and so no bidder is charged more than the bid values of what its bids won
+-- rule 12.8: and so the charges of a bidder are at most that sum over its bids
 abbrev pub BiddersWithin : Made → Type 0
 BiddersWithin m =
     (bidder : ℕ) →

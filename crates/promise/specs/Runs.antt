@@ -1,6 +1,5 @@
--- Document 01, "Its list starts from a fresh book and any register words; all else lent to a call is that call's own argument":
--- a list of calls taken one after another, by the engine and by the rules. "This paper's rules, fed with the fresh book's paths
--- and the calls' arguments alone" keep a book and the entries that it counts as a list; no word of the register is among them.
+-- A list of calls made one after another, by the engine and by the rules (rules 12.1 and 12.2). The engine works on the words of a register; the
+-- rules keep a book and the list of its counted entries, and no word of the register is among what they know.
 use mathlib.Core.List.{List, [], _∷_}
 use Prim.Native.Nat.{ℕ}
 use Rattle.market.specs.declared.book.Book.{Book}
@@ -27,6 +26,7 @@ pub record Made : Type 0 where
   pub book : Book
   pub entries : List Entry
 
+-- the call as it was made, from what it did
 abbrev pub madeWith : Book → Request → Effect → Made
 madeWith b r done =
     record {
@@ -44,6 +44,7 @@ abbrev pub leftWith : Left → Effect
 leftWith left =
     record { outcome = left .outcome; entries = countedEntries (left .outcome .book) (left .words); lists = left .lists }
 
+-- rule 12.1: the first call has the fresh book and any register words; each later one has what the call before it left, and its own lists
 abbrev pub engineStep : Book → List ℕ → Request → Left
 engineStep b words r = step b words (r .what) (r .lent)
 
@@ -57,6 +58,7 @@ engineRun b words (r ∷ rs) =
 
 -- ---- The rules, which know the book and its entries alone
 
+-- rule 12.2: the rules' own run, from a book, its entries and the arguments of the calls
 abbrev pub rulesMade : Book → List Entry → Request → Made
 rulesMade b es r = madeWith b r (ruled (ruleOf (r .what) (r .lent)) b es (listsOf (r .lent)))
 

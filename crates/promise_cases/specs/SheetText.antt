@@ -1,10 +1,11 @@
--- The starred sheet as text, from bytes to bytes: a sheet, the whole of its output, and the same sheet with a deposit over its
+-- The worked sheet as text, from bytes to bytes (rules 14.3, 14.7 and 14.9): a sheet, its output, and the same sheet with a deposit over its
 -- limit. A line of the text is a line here.
 use mathlib.Core.Path.{_≡_}
 use mathlib.Core.List.{List, [], _∷_}
 use Prim.Native.Nat.{ℕ}
 use Rattle.sheet_output.specs.Output.{outputOf}
 
+-- rule 14.3: a sheet
 --     TRA S 9191 9221
 --     bidders 2
 --     3 100000 0
@@ -26,6 +27,7 @@ caseSheet =
     ∷ 51 ∷ 32 ∷ 48 ∷ 32 ∷ 49 ∷ 48 ∷ 48 ∷ 32 ∷ 50 ∷ 32 ∷ 50 ∷ 48 ∷ 48 ∷ 48 ∷ 48 ∷ 32 ∷ 50 ∷ 48 ∷ 32 ∷ 49 ∷ 53 ∷ 48 ∷ 48 ∷ 48 ∷ 32 ∷ 51 ∷ 48 ∷ 10
     ∷ 55 ∷ 32 ∷ 48 ∷ 32 ∷ 49 ∷ 51 ∷ 48 ∷ 32 ∷ 49 ∷ 32 ∷ 49 ∷ 53 ∷ 48 ∷ 48 ∷ 48 ∷ 32 ∷ 52 ∷ 48 ∷ 10 ∷ []
 
+-- rule 14.9: its award sheet
 --     TRA-AWARD release 1 rules 1
 --     rounds 1
 --     bids 2
@@ -69,11 +71,12 @@ overSheet =
     ∷ 51 ∷ 32 ∷ 48 ∷ 32 ∷ 49 ∷ 48 ∷ 48 ∷ 32 ∷ 50 ∷ 32 ∷ 50 ∷ 48 ∷ 48 ∷ 48 ∷ 48 ∷ 32 ∷ 50 ∷ 48 ∷ 32 ∷ 49 ∷ 53 ∷ 48 ∷ 48 ∷ 48 ∷ 32 ∷ 51 ∷ 48 ∷ 10
     ∷ 55 ∷ 32 ∷ 48 ∷ 32 ∷ 49 ∷ 51 ∷ 48 ∷ 32 ∷ 49 ∷ 32 ∷ 49 ∷ 53 ∷ 48 ∷ 48 ∷ 48 ∷ 32 ∷ 52 ∷ 48 ∷ 10 ∷ []
 
--- refused 11
+-- rules 14.7 and 5.2: `refused 11`
 abbrev pub overOutput : List ℕ
 overOutput =
     114 ∷ 101 ∷ 102 ∷ 117 ∷ 115 ∷ 101 ∷ 100 ∷ 32 ∷ 49 ∷ 49 ∷ 10 ∷ []
 
+-- both outputs, as the rules give them
 pub record SheetText : Type 0 where
   pub award : outputOf caseSheet ≡ caseAward
   pub refused : outputOf overSheet ≡ overOutput

@@ -1,5 +1,5 @@
--- Document 01, "lines ended by byte 10, one space between fields, decimal without leading zeros": a line, and its numbers read
--- back. What is read at the front of a text is given by the bytes that it takes: 0 if it is not there.
+-- Lines, and the fields in them, written and read (rules 14.1 and 14.2). What is read at the front of a text is given by the bytes that it takes:
+-- 0 if it is not there.
 use mathlib.Core.Bool.{Bool, true, false, cond, _&&_}
 use mathlib.Core.List.{List, [], _∷_, _++_, map}
 use Prim.Native.Nat.{ℕ, zero, suc, _+_, _-_, _^_}
@@ -10,7 +10,7 @@ use Rattle.text_numbers.specs.Decimal.{decimal, numberAt}
 use Rattle.text_numbers.specs.declared.Number.{Number}
 use Rattle.text_fields.specs.declared.Field.{Field}
 
--- "one space between fields", "lines ended by byte 10"
+-- rule 14.1: one space separates two fields, and byte 10 ends a line
 abbrev pub space : ℕ
 space = 32
 
@@ -19,7 +19,7 @@ newline = 10
 
 -- ---- Writing
 
--- a line of fields, each as its bytes
+-- rule 14.1: a line of fields, each as its bytes; it neither begins nor ends with a space
 abbrev pub line : List (List ℕ) → List ℕ
 line [] = newline ∷ []
 line (f ∷ []) = f ++ (newline ∷ [])
@@ -29,13 +29,13 @@ line (f ∷ g ∷ fs) = f ++ (space ∷ line (g ∷ fs))
 abbrev pub numbersLine : List ℕ → List ℕ
 numbersLine ns = line (map decimal ns)
 
--- a word and a number, as "rounds 1"
+-- a line of a word and a number
 abbrev pub countLine : List ℕ → ℕ → List ℕ
 countLine word n = line (word ∷ decimal n ∷ [])
 
 -- ---- Reading
 
--- "A number .. fits 32 bits", "cash and letter excepted": those have "at most 13 digits"
+-- rule 14.2: the largest number below 2^32, and for cash and letter the largest of 13 digits
 abbrev pub wordTop : ℕ
 wordTop = 2 ^ 32 - 1
 
@@ -52,7 +52,7 @@ startsWith (c ∷ cs) (d ∷ ds) = eqb c d && startsWith cs ds
 abbrev pub wordSpaced : List ℕ → List ℕ
 wordSpaced word = word ++ (space ∷ [])
 
--- a number up to a limit and the byte that ends it
+-- rules 14.1 and 14.2: a number up to a limit and the byte that ends it
 abbrev pub fieldOf : ℕ → ℕ → List ℕ → Number → Field
 fieldOf limit stop text n =
     cond (leb 1 (n .digits) && leb (n .value) limit && eqb (getD text (n .digits) 0) stop)

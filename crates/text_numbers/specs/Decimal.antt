@@ -1,4 +1,4 @@
--- Document 01, "Text, .. decimal without leading zeros", "A number has at most 13 digits": numbers as bytes.
+-- Numbers as bytes, written and read (rule 14.2): decimal digits, with no zero in front of another digit; on a sheet at most 13 of them.
 use mathlib.Core.Bool.{Bool, true, false, cond, not, _&&_}
 use mathlib.Core.List.{List, [], _∷_, _++_}
 use Prim.Native.Nat.{ℕ, zero, suc, _+_, _*_, _-_, _/_, _%_}
@@ -16,7 +16,7 @@ isDigit c = leb zeroByte c && leb c (zeroByte + 9)
 
 -- ---- Writing
 
--- "decimal without leading zeros", of a number that has at most as many digits as the first argument says
+-- rule 14.2: the digits of a number that has at most as many of them as the first argument says
 abbrev pub decimalTo : ℕ → ℕ → List ℕ
 decimalTo zero n = []
 decimalTo (suc k) n = cond (ltb n 10) ((zeroByte + n) ∷ []) (decimalTo k (n / 10) ++ ((zeroByte + n % 10) ∷ []))
@@ -40,13 +40,13 @@ abbrev pub valueFrom : ℕ → List ℕ → ℕ
 valueFrom n [] = n
 valueFrom n (c ∷ cs) = valueFrom (n * 10 + (c - zeroByte)) cs
 
--- a number has a digit, and no zero before another digit
+-- rule 14.2: a number has a digit, and no zero in front of another digit
 abbrev pub noLeadingZero : List ℕ → Bool
 noLeadingZero [] = false
 noLeadingZero (c ∷ []) = true
 noLeadingZero (c ∷ d ∷ ds) = not (eqb c zeroByte)
 
--- "at most 13 digits"
+-- rule 14.2: on a sheet no number has more than 13 digits
 abbrev pub rightDigits : List ℕ → Bool
 rightDigits ds = noLeadingZero ds && leb (length ds) digitLimit
 

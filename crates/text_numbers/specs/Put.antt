@@ -1,9 +1,10 @@
--- Bytes put into a list at a place: those before and after them stay as they were.
+-- Bytes put into a list at a place, for every rule that writes into a lent buffer (rules 14.11 and 16.2): those before and after them stay.
 use mathlib.Core.Path.{_≡_}
 use mathlib.Core.List.{List, _++_}
 use Prim.Native.Nat.{ℕ, _+_}
 use lib.ListN.{length, take, drop}
 
+-- the list with these bytes from a place on
 abbrev pub putAt : List ℕ → ℕ → List ℕ → List ℕ
 putAt out at bytes = take at out ++ bytes ++ drop (at + length bytes) out
 
