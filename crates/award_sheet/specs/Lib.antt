@@ -1,2 +1,2 @@
--- What is written of a round.
+-- What is written of a round (rule 14.10).
 pub mod Rounds

@@ -1,4 +1,4 @@
--- A round as it is written: the words of its bids, and its answers for bids and for paths.
+-- A round as it is written on the award sheet (rule 14.10): the words of its bids, and its answers for bids and for paths.
 use mathlib.Core.List.{List}
 use Prim.Native.Nat.{ℕ, _≤_}
 use lib.ListN.{length}
@@ -7,6 +7,7 @@ use Rattle.round_bids.specs.BidRefusals.{BidList}
 use Rattle.round_bids.specs.Bids.{bidsOf}
 use Rattle.award_sheet_round.specs.RoundLines.{RoundMade}
 
+-- a round as the award sheet takes it
 abbrev pub made : List ℕ → List ℕ → List ℕ → RoundMade
 made bids answers results = record { bids = bidsOf bids; answers = answers; results = results }
 

@@ -1,5 +1,4 @@
--- Document 01, "The whole output", "Per round: place, bidder, path, admitted or over, bid value; path, offered, sold, price or
--- "-"; in bid order bidder, path, MW, charge."
+-- A round on the award sheet: its bids, its paths and its awards, each after a line with their count (rules 14.9 and 14.10).
 use mathlib.Core.Bool.{cond}
 use mathlib.Core.List.{List, [], _∷_, _++_}
 use Prim.Native.Nat.{ℕ, zero, suc, _+_}
@@ -16,10 +15,11 @@ use Rattle.award_sheet_round.specs.Phrases as words
 
 -- ---- A round, of these bids and with these answers
 
--- "1 3 0 admitted 850000"
+-- rule 14.10: a bid that is over has `over` for `admitted`
 abbrev pub markWord : ℕ → List ℕ
 markWord mark = cond (eqb mark admitted) words.admittedWord words.overWord
 
+-- rules 14.9 and 14.10: `PLACE BIDDER PATH admitted BIDVALUE`, with the places counted from 1
 abbrev pub awardBidLine : List ℕ → ℕ → Bid → List ℕ
 awardBidLine answers bid b =
     line
@@ -34,10 +34,11 @@ abbrev pub awardBidLines : List ℕ → ℕ → List Bid → List ℕ
 awardBidLines answers bid [] = []
 awardBidLines answers bid (b ∷ bs) = awardBidLine answers bid b ++ awardBidLines answers (bid + 1) bs
 
--- "0 60 60 15000", with "-" if there is no price
+-- rule 14.10: a path without clearing price has `-` for it
 abbrev pub priceField : ℕ → List ℕ
 priceField price = cond (eqb price 0) words.noPriceMark (decimal price)
 
+-- rules 14.9 and 14.10: `PATH OFFERED SOLD PRICE`, of this round
 abbrev pub awardPathLine : List ℕ → ℕ → List ℕ
 awardPathLine results path =
     line
@@ -48,10 +49,11 @@ abbrev pub awardPathLines : List ℕ → ℕ → List ℕ
 awardPathLines results zero = []
 awardPathLines results (suc n) = awardPathLines results n ++ awardPathLine results n
 
--- "3 0 50 750000", of the bids that won
+-- rule 14.9: `BIDDER PATH MW CHARGE`
 abbrev pub awardLine : List ℕ → ℕ → Bid → List ℕ
 awardLine answers bid b = numbersLine (b .bidder ∷ b .path ∷ wonIn answers bid ∷ chargeIn answers bid ∷ [])
 
+-- rule 14.10: the winning bids have such a line, in the order of the list
 abbrev pub awardPart : List ℕ → ℕ → Bid → List ℕ
 awardPart answers bid b = cond (ltb 0 (wonIn answers bid)) (awardLine answers bid b) []
 
@@ -59,7 +61,7 @@ abbrev pub awardLines : List ℕ → ℕ → List Bid → List ℕ
 awardLines answers bid [] = []
 awardLines answers bid (b ∷ bs) = awardPart answers bid b ++ awardLines answers (bid + 1) bs
 
--- how many bids won
+-- rule 14.10: the count of awards is the number of their lines
 abbrev pub winners : List ℕ → ℕ → List Bid → ℕ
 winners answers bid [] = 0
 winners answers bid (b ∷ bs) = cond (ltb 0 (wonIn answers bid)) 1 0 + winners answers (bid + 1) bs
@@ -70,7 +72,7 @@ pub record RoundMade : Type 0 where
   pub answers : List ℕ
   pub results : List ℕ
 
--- its bids, its paths and its awards, each of them after a line with their count
+-- rules 14.9 and 14.10: bids, paths and awards, each after a line with the count of their lines
 abbrev pub bidsPart : List ℕ → List Bid → List ℕ
 bidsPart answers bids = countLine (partWord Bids) (length bids) ++ awardBidLines answers 0 bids
 

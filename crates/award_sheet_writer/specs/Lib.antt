@@ -1,2 +1,2 @@
--- An award sheet being written.
+-- The writer of an award sheet (rule 14.11).
 pub mod Written

@@ -1,4 +1,4 @@
--- The same calls, with the sheet's lines in slots.
+-- The calls of a sheet up to open (rule 14.6), with the sheet's lines in slots.
 use mathlib.Core.Bool.{Bool}
 use mathlib.Core.List.{List, map}
 use Prim.Native.Nat.{ℕ, _*_}
@@ -30,7 +30,7 @@ quantitiesIn count slots = take (count * quantityWords) (quantitiesOf slots)
 abbrev pub openWith : Book → Kind → Period → PathRows → Outcome
 openWith b kind period paths = outcomeOf («open» kind period (quantitiesIn (paths .count) (paths .lines))) b emptyRegister
 
--- "fresh book, deposits, open"
+-- rules 14.6 and 14.7: the calls up to open; the first that is refused is the last
 unfoldable pub openedSlots : Kind → Period → List BidderLine → PathRows → Outcome
 openedSlots kind period bidders paths =
     andThen (fresh (map routeOf (paths .lines)) (paths .count))

@@ -1,5 +1,5 @@
--- Document 01, "The form is tested over the whole sheet first; a form fault prints only "refused 40 line L", the first faulty,
--- missing or extra line (from 1; 0 for too long)": line by line, each where the one before it ends.
+-- The form of a sheet (rules 14.1, 14.3, 14.5 and 14.8), tested line by line, each line where the one before it ends: right, or the number of the
+-- line at which the text stops being a sheet.
 use mathlib.Core.Path.{_≡_}
 use mathlib.Core.Bool.{Bool, true, false}
 use mathlib.Core.List.{List, [], _∷_}
@@ -31,17 +31,18 @@ linesAt part (suc k) state text =
     lineThen (lineAt part state text .used)
     (linesAt part k (lineAt part state text .next) (drop (lineAt part state text .used) text))
 
--- "each after its count": its count line, and as many lines as it says
+-- rule 14.3: the line with the count, and as many lines as it says
 abbrev pub sectionAt : Part → List ℕ → Read
 sectionAt part text =
     lineThen (countUsed part text) (linesAt part (countSaid part text) 0 (drop (countUsed part text) text))
 
+-- whether all of these lines are right
 abbrev pub sectionWhole : Part → List ℕ → Bool
 sectionWhole part text = eqb (sectionAt part text .lines) (1 + countSaid part text)
 
 -- ---- The sheet
 
--- "Sections stand in a fixed order", "L has two bids sections."
+-- rule 14.3: bidders, paths and bids, in this order; kind L has bids twice
 abbrev pub partsOf : Kind → List Part
 partsOf Short = Bidders ∷ Paths ∷ Bids ∷ []
 partsOf Long = Bidders ∷ Paths ∷ Bids ∷ Bids ∷ []
@@ -51,7 +52,8 @@ abbrev pub ifWhole : Bool → ℕ → Form → Form
 ifWhole true line rest = rest
 ifWhole false line rest = Faulty line
 
--- "the first faulty, missing or extra line", with the sections still to come and the number of the next line
+-- rule 14.8: the line that is wrong, the place of one that is not there, or a line after the end; with the sections still to come and the number of
+-- the next line
 abbrev pub formFrom : List Part → ℕ → List ℕ → Form
 formFrom [] line text = ifWhole (eqb (length text) 0) line Right
 formFrom (part ∷ parts) line text =
@@ -62,7 +64,8 @@ formFrom (part ∷ parts) line text =
 abbrev pub sheetKind : List ℕ → Kind
 sheetKind text = kindOfByte (getD text kindPlace 0)
 
--- "0 for too long"; the title is line 1
+-- rules 14.1 and 14.8: more than 16,384 bytes are a fault of line 0, a wrong title one of line 1; the sections follow from line 2 on.
+-- rule 14.5: this alone is form; all else is left to the calls
 unfoldable pub formOf : List ℕ → Form
 formOf text =
     ifWhole (leb (length text) sheetBytes) 0
@@ -75,7 +78,7 @@ abbrev pub IfRight : Form → Type 0 → Type 0
 IfRight Right fact = fact
 IfRight (Faulty line) fact = Unit {0}
 
--- the places of the sections, the first of them at `at`; after the first section of bids comes the second, or the end
+-- rule 14.6: the places of the sections, the first of them at `at`; after the first section of bids comes the second, or the end
 pub record PlacesAre (bytes : List ℕ) (at : ℕ) (found : Found) : Type 0 where
   pub bidders : found .bidders ≡ at
   pub paths : found .paths ≡ at + sectionAt Bidders (drop at bytes) .used

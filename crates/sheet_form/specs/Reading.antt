@@ -1,4 +1,4 @@
--- What a well-formed sheet says, read line by line.
+-- What a well-formed sheet says, read line by line (rules 14.3, 14.4 and 14.6).
 use mathlib.Core.Bool.{Bool, true, false}
 use mathlib.Core.List.{List, [], _∷_, _++_}
 use Prim.Native.Nat.{ℕ, zero, suc, _+_}
@@ -24,14 +24,14 @@ linesIn part read zero state text = []
 linesIn part read (suc k) state text =
     read text ∷ linesIn part read k (lineAt part state text .next) (drop (lineAt part state text .used) text)
 
--- "bidder .., cash, letter"
+-- rule 14.3: a bidder's line has the bidder, its cash and its letter
 abbrev pub bidderLineOf : List ℕ → BidderLine
 bidderLineOf said = record { bidder = getD said 0 0; cash = getD said 1 0; letter = getD said 2 0 }
 
 abbrev pub bidderLineAt : List ℕ → BidderLine
 bidderLineAt text = bidderLineOf (numbersSaid amountTop newline 3 text)
 
--- "direction, zone, base, FUL, A, B"
+-- rule 14.4: `M` is the direction in, and `X` the direction out
 abbrev pub importIf : Bool → Direction
 importIf true = Import
 importIf false = Export
@@ -39,6 +39,7 @@ importIf false = Export
 abbrev pub directionOf : ℕ → Direction
 directionOf c = importIf (eqb c (directionByte Import))
 
+-- rule 14.3: a path's line has direction, zone, base, FUL, A and B
 abbrev pub pathLineOf : Direction → List ℕ → PathLine
 pathLineOf way said =
     record {
@@ -60,10 +61,11 @@ afterNumber text = drop (fieldAt wordTop space text .used) text
 abbrev pub pathLineAt : List ℕ → PathLine
 pathLineAt text = routeIn (afterNumber text)
 
--- a bid: its numbers are the words that a round takes
+-- what follows the stamp of a bid's line
 abbrev pub afterStamp : List ℕ → List ℕ
 afterStamp text = drop (numbersUsed wordTop space 3 text) text
 
+-- rule 14.6: the words of a bid are the numbers of its line in order
 abbrev pub bidWords : List ℕ → List ℕ
 bidWords text =
     numbersSaid wordTop space 3 text ++ numbersSaid wordTop newline (fromCount (afterStamp text)) (afterStamp text)
@@ -73,11 +75,11 @@ bidIn text = bidAt (bidWords text) 0
 
 -- ---- Sections
 
--- what the lines of a section say, after its count line
+-- what the lines of a section say, after the line with its count
 abbrev pub sectionSays : {X : Type 0} → Part → (List ℕ → X) → List ℕ → List X
 sectionSays part read text = linesIn part read (countSaid part text) 0 (drop (countUsed part text) text)
 
--- "the part of the sheet that it occupies", and what comes after it
+-- rule 14.6: a section is the part of the bytes from the line with its count to the end of its last line; and what comes after it
 abbrev pub partAt : Part → List ℕ → List ℕ
 partAt part text = take (sectionAt part text .used) text
 
@@ -105,6 +107,7 @@ atRounds text = afterPart Paths (atPaths text)
 abbrev pub daysIn : List ℕ → List ℕ
 daysIn text = numbersSaid wordTop newline 2 (drop daysPlace text)
 
+-- rules 14.3 and 14.6: all that the sheet says
 unfoldable pub sheetIn : List ℕ → Sheet
 sheetIn text =
     record {

@@ -1,4 +1,4 @@
--- Document 01, "Sheets": what a sheet says, and how it is written in bytes.
+-- What a sheet says, how it is written in bytes, and which sheets can be written (rules 14.1 to 14.5).
 use mathlib.Core.Bool.{Bool, true, _&&_}
 use mathlib.Core.List.{List, [], _∷_, _++_, map}
 use Prim.Native.Nat.{ℕ, _+_}
@@ -19,8 +19,8 @@ use Rattle.sheet_form.specs.declared.rows.PathLine.{PathLine}
 
 -- ---- What it says
 
--- "kind, first and last day", the bidders, the paths, and as many sections of bids as the kind has rounds; the records of a
--- bidder's and of a path's line are declared with the code
+-- rule 14.3: kind and days, the bidders, the paths, and as many sections of bids as the kind has rounds; the records of a bidder's and of a path's
+-- line are declared with the code
 pub record Sheet : Type 0 where
   pub kind : Kind
   pub first : ℕ
@@ -29,22 +29,22 @@ pub record Sheet : Type 0 where
   pub paths : List PathLine
   pub rounds : List (List Bid)
 
--- "L has two bids sections."
+-- rule 14.3: a sheet of kind L has a second section of bids
 abbrev pub roundsOf : Kind → ℕ
 roundsOf Short = 1
 roundsOf Long = 2
 
 -- ---- How it is written
 
--- "TRA S 9191 9221"
+-- rule 14.3: `TRA K FIRST LAST`
 abbrev pub titleLine : Sheet → List ℕ
 titleLine s = line (titleWord ∷ (kindByte (s .kind) ∷ []) ∷ decimal (s .first) ∷ decimal (s .last) ∷ [])
 
--- "3 100000 0"
+-- rule 14.3: `BIDDER CASH LETTER`
 abbrev pub bidderLine : BidderLine → List ℕ
 bidderLine x = numbersLine (x .bidder ∷ x .cash ∷ x .letter ∷ [])
 
--- "0 X 2 1000 60 80 100"
+-- rule 14.3: `PATH DIRECTION ZONE BASE FUL A B`
 abbrev pub pathLine : ℕ → PathLine → List ℕ
 pathLine number p =
     line
@@ -52,10 +52,11 @@ pathLine number p =
     ∷ (directionByte (p .direction) ∷ [])
     ∷ map decimal (p .zone ∷ p .base ∷ p .upper ∷ p .first ∷ p .second ∷ []))
 
--- "3 0 100 2 20000 20 15000 30": the words that a round takes
+-- rules 14.3 and 14.6: `BIDDER PATH STAMP N PRICE MW PRICE MW ..`, the words that a round takes
 abbrev pub bidLine : Bid → List ℕ
 bidLine b = numbersLine (bidEncoded b)
 
+-- lines of bidders, of paths and of bids, one after another
 abbrev pub bidderLines : List BidderLine → List ℕ
 bidderLines [] = []
 bidderLines (x ∷ xs) = bidderLine x ++ bidderLines xs
@@ -68,7 +69,7 @@ abbrev pub bidLines : List Bid → List ℕ
 bidLines [] = []
 bidLines (b ∷ bs) = bidLine b ++ bidLines bs
 
--- a section of bids, "each after its count"
+-- rule 14.3: a section of bids, `bids COUNT` and its lines
 abbrev pub bidSection : List Bid → List ℕ
 bidSection bids = countLine (partWord Bids) (length bids) ++ bidLines bids
 
@@ -76,7 +77,7 @@ abbrev pub bidSections : List (List Bid) → List ℕ
 bidSections [] = []
 bidSections (bids ∷ more) = bidSection bids ++ bidSections more
 
--- "Sections stand in a fixed order"
+-- rules 14.1 and 14.3: the title, and then the sections of bidders, paths and bids, each after the line with its count
 unfoldable pub sheetText : Sheet → List ℕ
 sheetText s =
     titleLine s
@@ -86,21 +87,22 @@ sheetText s =
 
 -- ---- Which sheets can be written
 
--- "fits 32 bits"
+-- rule 14.2: a number is below 2^32
 abbrev pub fitsWord : ℕ → Bool
 fitsWord n = leb n wordTop
 
--- "cash and letter excepted": "at most 13 digits"
+-- rule 14.2: cash and letter have at most 13 digits
 abbrev pub fitsAmount : ℕ → Bool
 fitsAmount n = leb n amountTop
 
--- "numbers strictly rising", each at least `least` and "0 to 31"
+-- rule 14.4: the numbers of bidders are 0 to 31, each above the one before, and at least `least`
 abbrev pub rightBidders : ℕ → List BidderLine → Bool
 rightBidders least [] = true
 rightBidders least (x ∷ xs) =
     (leb least (x .bidder) && ltb (x .bidder) bidderLimit && fitsAmount (x .cash) && fitsAmount (x .letter))
     && rightBidders (x .bidder + 1) xs
 
+-- rule 14.5: of a path and of a bid it is only tested that the numbers fit
 abbrev pub rightPath : PathLine → Bool
 rightPath p = fitsWord (p .zone) && fitsWord (p .base) && fitsWord (p .upper) && fitsWord (p .first) && fitsWord (p .second)
 
@@ -111,6 +113,7 @@ rightBid b = every fitsWord (bidEncoded b)
 abbrev pub rightSection : List Bid → Bool
 rightSection bids = fitsWord (length bids) && every rightBid bids
 
+-- rules 14.2 to 14.5: a sheet that can be written
 unfoldable pub rightSheet : Sheet → Bool
 rightSheet s =
     fitsWord (s .first)

@@ -1,5 +1,4 @@
--- Document 01:
--- "Then come fresh book, deposits, open and rounds in sheet order; the first engine refusal prints only "refused N"."
+-- The output of a sheet, from its bytes, and the buffer that it is written to (rules 14.6 to 14.12, and rule 13.40).
 use mathlib.Core.Bool.{Bool, true, false}
 use mathlib.Core.List.{List, map}
 use Prim.Native.Nat.{ℕ}
@@ -25,41 +24,44 @@ use Rattle.award_sheet_parts.specs.AwardSheet.{refusedLine}
 
 -- ---- Before the rounds
 
--- "kind, first and last day": the days are the auction's period
+-- the days of the title are the auction's period
 abbrev pub sheetPeriod : Sheet → Period
 sheetPeriod s = record { first = dayNumber (s .first); last = dayNumber (s .last) }
 
--- "fresh book, deposits, open"
+-- rule 14.6: the calls up to open
 abbrev pub start : Sheet → Outcome
 start s = opened (s .kind) (sheetPeriod s) (s .bidders) (s .paths)
 
 -- ---- The output
 
--- the output of a well-formed sheet: the calls up to open, and a round for each section of bids
+-- rules 14.6, 14.7 and 14.9: the output of a well-formed sheet, from the calls up to open and a round for each section of bids
 unfoldable pub sheetOutput : Sheet → List ℕ
 sheetOutput s = outputFrom (start s) (map (λ x. x .bidder) (s .bidders)) (map encoded (s .rounds))
 
--- "The form is tested over the whole sheet first; a form fault prints only "refused 40 line L""
+-- rules 13.40 and 14.8: a sheet of faulty form has the one line `refused 40 line L`, and none of its calls is made
 abbrev pub byForm : Form → List ℕ → List ℕ
 byForm Right output = output
 byForm (Faulty line) output = refusedLine formRefusal line
 
+-- rules 14.8 and 14.12: the output of any bytes, which the program `tra` writes for those that it reads
 unfoldable pub outputOf : List ℕ → List ℕ
 outputOf text = byForm (formOf text) (sheetOutput (sheetIn text))
 
--- 1 "a lent buffer shorter than stated": "The output buffer is 65,536 bytes"
+-- rule 14.11: the output buffer has 65,536 bytes or more
 abbrev pub hasOutputRoom : List ℕ → Bool
 hasOutputRoom out = leb awardSheetBytes (length out)
 
+-- rule 14.11: the count of the output's bytes, or 1 for a short buffer, whatever the sheet holds
 abbrev pub answerIf : Bool → List ℕ → Reply
 answerIf true output = Written (length output)
 answerIf false output = Refused 1
 
+-- rule 14.11: the output stands at the front of the buffer, and the bytes after it stay; a short buffer stays as it is
 abbrev pub bufferIf : Bool → List ℕ → List ℕ → List ℕ
 bufferIf true out output = putAt out 0 output
 bufferIf false out output = out
 
--- the answer, and the buffer after it: its first bytes are the output, and the rest is as it was
+-- the answer, and the buffer after it
 unfoldable pub answerTo : List ℕ → List ℕ → Reply
 answerTo text out = answerIf (hasOutputRoom out) (outputOf text)
 

@@ -1,4 +1,4 @@
--- Document 01, "rounds in sheet order; the first engine refusal prints only "refused N"."
+-- The rounds of a sheet, one for each section of bids (rule 14.6), and what is printed after them (rules 14.7 and 14.9).
 use mathlib.Core.List.{List, [], _∷_, _++_}
 use Prim.Native.Nat.{ℕ, zero, suc}
 use lib.ListN.{replicate}
@@ -20,7 +20,7 @@ pub record Progress : Type 0 where
   pub words : List ℕ
   pub rounds : List RoundMade
 
--- the lists that a round is lent to write to
+-- rule 14.6: the lists for bids and for paths and the scratch are new in each round, of the lengths of rule 13.1
 abbrev pub answersLent : List ℕ
 answersLent = replicate bidAnswerWords 0
 
@@ -34,6 +34,7 @@ scratchLent = replicate scratchWords 0
 abbrev pub roundWith : List ℕ → Rule
 roundWith bids = round bids answersLent resultsLent scratchLent
 
+-- rule 14.6: one round more, over the book and the register that the calls before it left
 unfoldable pub sheetRound : Book → List ℕ → List RoundMade → List ℕ → Progress
 sheetRound b words before bids =
     record {
@@ -45,11 +46,12 @@ sheetRound b words before bids =
           ∷ []);
     }
 
+-- rule 14.7: after a refused call no other is made
 abbrev pub unlessStopped : ℕ → Progress → Progress → Progress
 unlessStopped zero done next = next
 unlessStopped (suc n) done next = done
 
--- "rounds in sheet order", each by the words of its bids
+-- rule 14.6: a round for each section, by the words of its bids
 abbrev pub roundsFrom : Progress → List (List ℕ) → Progress
 roundsFrom done [] = done
 roundsFrom done (bids ∷ more) =
@@ -58,12 +60,13 @@ roundsFrom done (bids ∷ more) =
     (sheetRound (done .outcome .book) (done .words) (done .rounds) bids))
     more
 
+-- before the first round
 abbrev pub begun : Outcome → Progress
 begun o = record { outcome = o; words = emptyRegister; rounds = [] }
 
 -- ---- The output
 
--- "the first engine refusal prints only "refused N""
+-- rules 14.7 and 14.9: the award sheet; or the one line of the refusal, also where a round before it was answered
 abbrev pub roundsOutput : ℕ → List ℕ → Progress → List ℕ
 roundsOutput zero listed done = awardText (done .rounds) (done .outcome .book) listed
 roundsOutput (suc n) listed done = refusedText (suc n)
