@@ -1,4 +1,4 @@
--- docs/JOURNAL.md, "A line": what a line says, call by call. A line "that has not this form" says nothing, which is `Faulty`.
+-- What a line of a journal says, call by call (rules 15.2 and 15.3). A line of another form says nothing, which is `Faulty` (rule 15.4).
 use mathlib.Core.Path.{_≡_}
 use mathlib.Core.Bool.{Bool, true, false, cond, _&&_}
 use mathlib.Core.List.{List, [], _∷_, _++_}
@@ -23,15 +23,14 @@ use Rattle.journal_call_line.specs.declared.heads.Opening.{Opening}
 use Rattle.journal_call_line.specs.declared.Said.{Said}
 use Rattle.journal_call_line.specs.declared.Said.the-variants.{Faulty, Called}
 
--- what is read of a line: its call, which it says only if the whole line has the call's form, and the list that it ends in, of
--- words or of prices
+-- what is read of a line: its call, which it says only if the whole line has the call's form, and the list that it ends in, of words or of prices
 pub record Reading : Type 0 where
   pub whole : Bool
   pub call : Call
   pub words : List ℕ
   pub prices : List ℤ
 
--- a call and how many words and prices it has
+-- rule 15.4: a call and how many words and prices it has, or a line of another form
 abbrev pub saidOf : Reading → Said
 saidOf r = cond (r .whole) (Called (r .call) (length (r .words)) (length (r .prices))) Faulty
 
@@ -51,29 +50,32 @@ withWords whole call words = record { whole = whole; call = call; words = words;
 
 -- ---- deposit B cash|letter AMOUNT, withdraw B cash|letter AMOUNT
 
--- "deposit"
+-- rule 15.2: `deposit`
 abbrev pub depositWord : List ℕ
 depositWord = 100 ∷ 101 ∷ 112 ∷ 111 ∷ 115 ∷ 105 ∷ 116 ∷ []
 
--- "withdraw"
+-- rule 15.2: `withdraw`
 abbrev pub withdrawWord : List ℕ
 withdrawWord = 119 ∷ 105 ∷ 116 ∷ 104 ∷ 100 ∷ 114 ∷ 97 ∷ 119 ∷ []
 
--- an option is one of two words, each with its space: " cash"
+-- rule 15.2: ` cash`; an option is one of two words, each with its space
 abbrev pub cashOption : List ℕ
 cashOption = 32 ∷ 99 ∷ 97 ∷ 115 ∷ 104 ∷ []
 
--- " letter"
+-- rule 15.2: ` letter`
 abbrev pub letterOption : List ℕ
 letterOption = 32 ∷ 108 ∷ 101 ∷ 116 ∷ 116 ∷ 101 ∷ 114 ∷ []
 
+-- cash or letter, by which of the two words is present
 abbrev pub fundsOf : ℕ → Funds
 fundsOf n = cond (eqb n 0) Cash Letter
 
+-- the call of a bidder, cash or letter, and an amount
 abbrev pub accountCall : Bool → ℕ → Funds → ℕ → Call
 accountCall true bidder funds amount = Deposit bidder funds (cents amount)
 accountCall false bidder funds amount = Withdraw bidder funds (cents amount)
 
+-- rules 15.2 and 15.3: the line of a deposit or of a withdrawal, with an amount below 2^64
 abbrev pub accountRead : Bool → List ℕ → Reading
 accountRead deposit text =
     let b = number wordTop text in
@@ -83,10 +85,11 @@ accountRead deposit text =
 
 -- ---- pay B AMOUNT
 
--- "pay"
+-- rule 15.2: `pay`
 abbrev pub payWord : List ℕ
 payWord = 112 ∷ 97 ∷ 121 ∷ []
 
+-- rules 15.2 and 15.3: the line of a payment
 abbrev pub payRead : List ℕ → Reading
 payRead text =
     let b = number wordTop text in
@@ -95,51 +98,57 @@ payRead text =
 
 -- ---- default B
 
--- "default"
+-- rule 15.2: `default`
 abbrev pub defaultWord : List ℕ
 defaultWord = 100 ∷ 101 ∷ 102 ∷ 97 ∷ 117 ∷ 108 ∷ 116 ∷ []
 
+-- rules 15.2 and 15.3: the line of a default
 abbrev pub defaultRead : List ℕ → Reading
 defaultRead text = let b = lastNumber wordTop text in plainly (present b) (Default (b .value))
 
 -- ---- retire DAY
 
--- "retire"
+-- rule 15.2: `retire`
 abbrev pub retireWord : List ℕ
 retireWord = 114 ∷ 101 ∷ 116 ∷ 105 ∷ 114 ∷ 101 ∷ []
 
+-- rules 15.2 and 15.3: the line of retire
 abbrev pub retireRead : List ℕ → Reading
 retireRead text = let d = lastNumber wordTop text in plainly (present d) (Retire (dayNumber (d .value)))
 
 -- ---- rent AMOUNT
 
--- "rent"
+-- rule 15.2: `rent`
 abbrev pub rentWord : List ℕ
 rentWord = 114 ∷ 101 ∷ 110 ∷ 116 ∷ []
 
+-- rules 15.2 and 15.3: the line of rent
 abbrev pub rentRead : List ℕ → Reading
 rentRead text = let a = lastNumber wideTop text in plainly (present a) (Rent (cents (a .value)))
 
 -- ---- open S|L FIRST LAST Q Q Q Q ...
 
--- "open"
+-- rule 15.2: `open`
 abbrev pub openWord : List ℕ
 openWord = 111 ∷ 112 ∷ 101 ∷ 110 ∷ []
 
--- " S"
+-- rule 15.2: ` S`
 abbrev pub shortOption : List ℕ
 shortOption = 32 ∷ 83 ∷ []
 
--- " L"
+-- rule 15.2: ` L`
 abbrev pub longOption : List ℕ
 longOption = 32 ∷ 76 ∷ []
 
+-- the kind by which of the two words is present
 abbrev pub kindChosen : ℕ → Kind
 kindChosen n = cond (eqb n 0) Short Long
 
+-- a period of two days
 abbrev pub periodFrom : ℕ → ℕ → Period
 periodFrom first last = record { first = dayNumber first; last = dayNumber last }
 
+-- kind and period, whether they are present, and the bytes that they take
 abbrev pub openingOf : Field → Field → Field → Opening
 openingOf k f l =
     record {
@@ -159,6 +168,7 @@ opening text =
 abbrev pub ends : List ℕ → ℕ → ℕ → Bool
 ends text from used = eqb (from + used) (length text)
 
+-- rules 15.2 and 15.3: the line of open, with whole groups of four words; how many groups is left to the engine
 abbrev pub openRead : ℕ → List ℕ → Reading
 openRead cap text =
     let h = opening text in
@@ -168,27 +178,29 @@ openRead cap text =
 
 -- ---- round W W W ...
 
--- "round"
+-- rule 15.2: `round`
 abbrev pub roundWord : List ℕ
 roundWord = 114 ∷ 111 ∷ 117 ∷ 110 ∷ 100 ∷ []
 
+-- rules 15.2 and 15.3: the line of a round; how many words it has is left to the engine
 abbrev pub roundRead : ℕ → List ℕ → Reading
 roundRead cap text = withWords (ends text 0 (wordsUsed cap text)) Round (wordsSaid cap text)
 
 -- ---- payout DAY failed|priced P ... P
 
--- "payout"
+-- rule 15.2: `payout`
 abbrev pub payoutWord : List ℕ
 payoutWord = 112 ∷ 97 ∷ 121 ∷ 111 ∷ 117 ∷ 116 ∷ []
 
--- " failed"
+-- rule 15.2: ` failed`
 abbrev pub failedOption : List ℕ
 failedOption = 32 ∷ 102 ∷ 97 ∷ 105 ∷ 108 ∷ 101 ∷ 100 ∷ []
 
--- " priced"
+-- rule 15.2: ` priced`
 abbrev pub pricedOption : List ℕ
 pricedOption = 32 ∷ 112 ∷ 114 ∷ 105 ∷ 99 ∷ 101 ∷ 100 ∷ []
 
+-- the day and whether the hour has failed, whether they are present, and the bytes that they take
 abbrev pub hourOf : Field → Field → HourLine
 hourOf d h =
     record {
@@ -203,7 +215,7 @@ hourLine text =
     let d = number wordTop text in
     hourOf d (choice failedOption pricedOption (drop (d .used) text))
 
--- "16 zone prices"
+-- rules 15.2 and 15.3: the line of payout, with 16 prices, for a failed hour too
 abbrev pub payoutRead : ℕ → List ℕ → Reading
 payoutRead most text =
     let h = hourLine text in
@@ -218,22 +230,24 @@ payoutRead most text =
 
 -- ---- disburse D C ... C, recover D C ... C
 
--- "disburse"
+-- rule 15.2: `disburse`
 abbrev pub disburseWord : List ℕ
 disburseWord = 100 ∷ 105 ∷ 115 ∷ 98 ∷ 117 ∷ 114 ∷ 115 ∷ 101 ∷ []
 
--- "recover"
+-- rule 15.2: `recover`
 abbrev pub recoverWord : List ℕ
 recoverWord = 114 ∷ 101 ∷ 99 ∷ 111 ∷ 118 ∷ 101 ∷ 114 ∷ []
 
--- "32 provincial charges, 32 export charges, 32 energies at meters, 32 at interties"
+-- rule 15.3: 128 numbers, four columns of 32
 abbrev pub columnWords : ℕ
 columnWords = 4 * bidderLimit
 
+-- a disbursement or a recovery of a total
 abbrev pub shareCall : Bool → ℕ → Call
 shareCall true total = Disburse (cents total)
 shareCall false total = Recover (cents total)
 
+-- rules 15.2 and 15.3: the line of disburse or of recover, with a total below 2^64 and the columns one after another
 abbrev pub shareRead : ℕ → Bool → List ℕ → Reading
 shareRead cap disburse text =
     let d = number wideTop text in
@@ -243,7 +257,7 @@ shareRead cap disburse text =
 
 -- ---- Any line. `cap` and `most` are how many words and how many prices there is room for
 
--- the form of a call's line: its first word, and what the text after that says
+-- rule 15.2: the form of a call's line: its first word, and what the text after that says
 pub record Form : Type 0 where
   pub word : List ℕ
   pub read : List ℕ → Reading
@@ -251,7 +265,7 @@ pub record Form : Type 0 where
 abbrev pub form : List ℕ → (List ℕ → Reading) → Form
 form word read = record { word = word; read = read }
 
--- the calls that have a list
+-- rule 15.2: the calls that have a list
 abbrev pub listForms : ℕ → ℕ → List Form
 listForms cap most =
     form openWord (openRead cap)
@@ -261,7 +275,7 @@ listForms cap most =
     ∷ form recoverWord (shareRead cap false)
     ∷ []
 
--- and those that have none
+-- rule 15.2: and those that have none
 abbrev pub plainForms : List Form
 plainForms =
     form depositWord (accountRead true)
@@ -272,12 +286,12 @@ plainForms =
     ∷ form rentWord rentRead
     ∷ []
 
--- a line is read by the first form whose word it begins with; where there is none it says nothing
+-- rule 15.4: a line is read by the first form whose word it begins with; where there is none it says nothing
 abbrev pub readBy : List Form → List ℕ → Reading
 readBy [] line = plainly false Round
 readBy (f ∷ fs) line = cond (startsWith (f .word) line) (f .read (drop (length (f .word)) line)) (readBy fs line)
 
--- "payout" is tried before "pay", with which it begins
+-- rule 15.2: every line but that of a fresh book; `payout` is tried before `pay`, with which it begins
 unfoldable pub lineRead : ℕ → ℕ → List ℕ → Reading
 lineRead cap most line = readBy (listForms cap most ++ plainForms) line
 

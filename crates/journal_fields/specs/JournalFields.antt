@@ -1,5 +1,5 @@
--- docs/JOURNAL.md, "A line": "one space between fields, decimal": every field but the first comes after one space. A field read
--- at the front of a text has its value and how many bytes it takes with that space, 0 where it is not present.
+-- The fields of a journal's line (rules 15.1 and 15.3): every field but the first comes after one space. A field read at the front of a text has
+-- its value and how many bytes it takes with that space, 0 where it is not present.
 use mathlib.Core.Bool.{Bool, cond, not, _&&_}
 use mathlib.Core.List.{List, [], _∷_}
 use Prim.Native.Nat.{ℕ, zero, suc, _+_, _-_, _^_}
@@ -11,20 +11,21 @@ use Rattle.text_fields.specs.Fields.{space, wordTop, startsWith}
 use Rattle.text_fields.specs.declared.Field.{Field}
 use Rattle.journal_fields.specs.declared.Price.{Price}
 
--- "Amounts and D have up to 64 bits, prices up to 63 beside their sign"
+-- rule 15.3: amounts are below 2^64, and the sizes of prices below 2^63
 abbrev pub wideTop : ℕ
 wideTop = 2 ^ 64 - 1
 
 abbrev pub priceTop : ℕ
 priceTop = 2 ^ 63 - 1
 
+-- a field that is not present, and whether one is
 abbrev pub noField : Field
 noField = record { value = 0; used = 0 }
 
 abbrev pub present : Field → Bool
 present f = not (eqb (f .used) 0)
 
--- these digits are a number up to a limit: decimal without leading zeros
+-- rules 15.1 and 15.3: digits with no zero in front of another digit, whose value is at most a limit
 abbrev pub numeralWithin : ℕ → List ℕ → Bool
 numeralWithin limit ds = noLeadingZero ds && leb (valueFrom 0 ds) limit
 
@@ -39,11 +40,11 @@ numeral limit text = numeralOf limit (digitsIn text)
 abbrev pub fieldAfter : ℕ → Field → Field
 fieldAfter n f = cond (eqb (f .used) 0) noField (record { value = f .value; used = n + f .used })
 
--- a number up to a limit, after its space
+-- rule 15.1: a number up to a limit, after exactly one space
 unfoldable pub number : ℕ → List ℕ → Field
 number limit text = cond (startsWith (space ∷ []) text) (fieldAfter 1 (numeral limit (drop 1 text))) noField
 
--- a field that ends the line
+-- rule 15.1: a field that ends the line, with no space after it
 abbrev pub closing : List ℕ → Field → Field
 closing text f = cond (eqb (f .used) (length text)) f noField
 
@@ -58,22 +59,24 @@ choice first second text =
     (record { value = 0; used = length first })
     (cond (startsWith second text) (record { value = 1; used = length second }) noField)
 
--- ---- Prices: "a minus sign before a negative one"
+-- ---- Prices
 
--- " -"
+-- the sign of a price below 0, after its space
 abbrev pub minus : List ℕ
 minus = space ∷ 45 ∷ []
 
+-- a price that is not present, and one from 0 on
 abbrev pub absentPrice : Price
 absentPrice = record { value = pos 0; used = 0 }
 
 abbrev pub priceOfField : Field → Price
 priceOfField f = record { value = pos (f .value); used = f .used }
 
--- a negative number is not 0
+-- rule 15.3: minus zero is no price
 abbrev pub belowZero : Field → Price
 belowZero f = cond (eqb (f .value) 0) absentPrice (record { value = negℤ (pos (f .value)); used = 2 + f .used })
 
+-- rule 15.3: a price has a size below 2^63, and a minus sign where it is below 0
 unfoldable pub price : List ℕ → Price
 price text =
     cond (startsWith minus text) (belowZero (numeral priceTop (drop 2 text))) (priceOfField (number priceTop text))
@@ -91,19 +94,21 @@ module _ {X : Type 0} (used : List ℕ → ℕ) (value : List ℕ → X) where
   fieldsUsed zero text = 0
   fieldsUsed (suc k) text = cond (eqb (used text) 0) 0 (used text + fieldsUsed k (drop (used text) text))
 
--- words, of 32 bits
+-- rule 15.3: words, which are below 2^32
 abbrev pub wordUsed : List ℕ → ℕ
 wordUsed text = number wordTop text .used
 
 abbrev pub wordValue : List ℕ → ℕ
 wordValue text = number wordTop text .value
 
+-- a list of words: what it says, and its bytes
 abbrev pub wordsSaid : ℕ → List ℕ → List ℕ
 wordsSaid = fieldsSaid wordUsed wordValue
 
 abbrev pub wordsUsed : ℕ → List ℕ → ℕ
 wordsUsed = fieldsUsed wordUsed wordValue
 
+-- the same of prices
 abbrev pub priceUsed : List ℕ → ℕ
 priceUsed text = price text .used
 

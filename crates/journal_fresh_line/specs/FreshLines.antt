@@ -1,4 +1,4 @@
--- docs/JOURNAL.md, "A line": "fresh D Z D Z ...", per path X or M and its zone.
+-- The line of a fresh book (rules 15.2 and 15.3): `fresh D Z D Z ..`, a direction and a zone for each path.
 use mathlib.Core.Bool.{cond, _&&_}
 use mathlib.Core.List.{List, [], _∷_}
 use Prim.Native.Nat.{ℕ, _+_}
@@ -15,14 +15,15 @@ use Rattle.journal_fields.specs.JournalFields.{present, number, choice, fieldsS
 use Rattle.journal_fresh_line.specs.declared.FreshLine.{FreshLine}
 use Rattle.journal_fresh_line.specs.declared.RouteField.{RouteField}
 
--- " X"
+-- rule 15.2: ` X`
 abbrev pub exportOption : List ℕ
 exportOption = 32 ∷ 88 ∷ []
 
--- " M"
+-- rule 15.2: ` M`
 abbrev pub importOption : List ℕ
 importOption = 32 ∷ 77 ∷ []
 
+-- the direction by which of the two words is present
 abbrev pub wayOf : ℕ → Direction
 wayOf n = cond (eqb n 0) Export Import
 
@@ -33,11 +34,13 @@ routeRead w z =
     (record { route = record { direction = wayOf (w .value); zone = z .value }; used = w .used + z .used })
     (record { route = noRoute; used = 0 })
 
+-- rules 15.2 and 15.3: a direction and then a zone below 2^32
 unfoldable pub routeAt : List ℕ → RouteField
 routeAt text =
     let w = choice exportOption importOption text in
     routeRead w (number wordTop (drop (w .used) text))
 
+-- its bytes, and what it says
 abbrev pub routeFieldUsed : List ℕ → ℕ
 routeFieldUsed text = routeAt text .used
 
@@ -55,8 +58,8 @@ routesUsed text = fieldsUsed routeFieldUsed routeValue (length text) text
 abbrev pub noSlots : List Route
 noSlots = replicate pathLimit noRoute
 
--- what the text after the word "fresh" says: whether its routes go on to the end, how many there are, and the first of them in
--- their slots
+-- rules 15.2 and 15.3: what the text after the word `fresh` says: whether its routes go on to the end, how many there are, which may be any
+-- number, and the first of them in their slots
 unfoldable pub freshSaid : List ℕ → FreshLine
 freshSaid text =
     record {

@@ -1,2 +1,2 @@
--- The line of a fresh book.
+-- The line of a fresh book (rule 15.2).
 pub mod FreshLines

@@ -1,4 +1,4 @@
--- docs/JOURNAL.md, "What is printed": the reply to each call.
+-- The reply to each line of a journal (rule 15.7), and the room that a reply needs (rule 16.2).
 use mathlib.Core.List.{List, [], _∷_, _++_}
 use Prim.Native.Nat.{ℕ, zero, suc}
 use lib.ListN.{drop, take}
@@ -11,26 +11,26 @@ use Rattle.journal_reply.specs.Words as words
 use Rattle.journal_reply.specs.declared.Told.{Told}
 use Rattle.journal_reply.specs.declared.Told.the-variants.{Nothing, Listed}
 
--- room for the reply to any call
+-- rule 16.2: 65,536 bytes are room for the reply to any call
 abbrev pub replyRoom : ℕ
 replyRoom = 65536
 
--- "after the slash, of each path, offered and sold in this round, and price or 0"
+-- rule 15.7: of a round, after the slash, the words of each path (rule 7.18)
 abbrev pub pathRowsText : ℕ → List ℕ → List ℕ
 pathRowsText zero results = []
 pathRowsText (suc k) results = row words.slashMark (take pathAnswerSize results) ++ rows words.barMark pathAnswerSize k (drop pathAnswerSize results)
 
--- "= ok N | M V W C | ... / O S P | ..."
+-- rule 15.7: `= ok N | M V W C | .. / O S P | ..`, with the words of each bid (rule 7.17)
 abbrev pub roundReply : ℕ → List ℕ → ℕ → List ℕ → List ℕ
 roundReply bids answers paths results =
     row words.okMark (bids ∷ []) ++ rows words.barMark bidAnswerSize bids answers ++ pathRowsText paths results ++ (newline ∷ [])
 
--- "= ok", and after it the list that the call tells: the offers of an open auction, or 32 amounts
+-- rule 15.7: `= ok`, and after it what the call tells: the offers of open, or 32 amounts
 abbrev pub doneText : Told → List ℕ → List ℕ
 doneText Nothing list = lastRow words.okMark []
 doneText Listed list = lastRow words.okMark list
 
--- the reply to a call; `list` is the list that it tells, if any, and `answers` and `results` are those of a round
+-- rule 15.7: the reply to a call; `list` is the list that it tells, if any, and `answers` and `results` are those of a round
 unfoldable pub replyText : Answer → Told → List ℕ → List ℕ → ℕ → List ℕ → List ℕ
 replyText (Refused n) told list answers paths results = lastRow words.refusedMark (n ∷ [])
 replyText Done told list answers paths results = doneText told list

@@ -1,4 +1,4 @@
--- docs/JOURNAL.md, "What is printed": a row is a mark and numbers, each number after one space.
+-- Rows of a journal's replies and of its state (rules 15.7 and 15.8): a row is a mark and numbers, each number after one space.
 use mathlib.Core.List.{List, [], _∷_, _++_}
 use Prim.Native.Nat.{ℕ, zero, suc}
 use lib.ListN.{take, drop}
@@ -10,6 +10,7 @@ abbrev pub spacedNumbers : List ℕ → List ℕ
 spacedNumbers [] = []
 spacedNumbers (n ∷ ns) = space ∷ (decimal n ++ spacedNumbers ns)
 
+-- a row
 abbrev pub row : List ℕ → List ℕ → List ℕ
 row mark ns = mark ++ spacedNumbers ns
 

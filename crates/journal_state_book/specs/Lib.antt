@@ -1,3 +1,3 @@
--- What a journal prints of the state.
+-- What a journal prints of the state (rule 15.8).
 pub mod Words
 pub mod States

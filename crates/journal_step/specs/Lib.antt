@@ -1,2 +1,2 @@
--- One line of a journal, run.
+-- One line of a journal, run (rules 15.1 to 15.7).
 pub mod LineStep

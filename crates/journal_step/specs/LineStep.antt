@@ -1,4 +1,4 @@
--- docs/JOURNAL.md: one line of a journal, the reply to it, and the state after it. The calls are the engine's own, by `step`.
+-- One line of a journal, the reply to it, and the state after it (rules 15.1 to 15.7, and rule 13.40). The calls are the engine's own, by `step`.
 use mathlib.Core.Bool.{Bool, true, false, cond}
 use mathlib.Core.List.{List, [], _∷_, map}
 use Prim.Native.Nat.{ℕ, zero, suc, _*_}
@@ -31,7 +31,7 @@ use Rattle.journal_step.specs.declared.answers.Tell.the-variants as tell
 
 -- ---- What a call tells
 
--- what an answered call tells besides its number
+-- rule 15.7: what an answered call tells besides its number
 abbrev pub tellBy : Call → Tell
 tellBy (Deposit bidder to amount) = tells.Nothing
 tellBy (Withdraw bidder from amount) = tells.Nothing
@@ -45,7 +45,7 @@ tellBy (Payout day failed) = tells.Amounts
 tellBy (Disburse total) = tells.Amounts
 tellBy (Recover total) = tells.Amounts
 
--- what a round tells: its bids and what it awarded
+-- whether that is what a round tells
 abbrev pub isRound : Tell → Bool
 isRound tells.Nothing = false
 isRound tells.Offers = false
@@ -54,19 +54,19 @@ isRound tells.Amounts = false
 
 -- ---- What a call is lent
 
--- "A line has up to 65,536 bytes before its byte 10."
+-- rule 15.1: a line has at most 65,536 bytes before its byte 10
 abbrev pub lineBytes : ℕ
 lineBytes = 65536
 
--- a word takes at least two of them
+-- rule 16.2: room for the words of a line, each of which takes at least two bytes
 abbrev pub wordRoom : ℕ
 wordRoom = 32768
 
--- "32 provincial charges, 32 export charges, 32 energies at meters, 32 at interties", one column after another
+-- rule 15.3: one of the four columns of 32, which come one after another
 abbrev pub column : ℕ → List ℕ → List ℕ
 column k list = take bidderLimit (drop (k * bidderLimit) list)
 
--- the line's own lists, lists for what the call answers, and a scratch
+-- rule 15.6: the numbers of the line, lists for what the call answers, and a scratch
 abbrev pub lentWith : List ℕ → List ℤ → List ℕ → List ℕ → List ℕ → List ℕ → Lent
 lentWith list prices amounts answers results scratch =
     lent list list prices
@@ -79,11 +79,11 @@ lentWith list prices amounts answers results scratch =
     results
     scratch
 
--- only a round is lent a list for the answers of bids, and a scratch: so many zeros, and none for any other call
+-- rule 15.6: only a round is lent a list for bids and a scratch, of so many zeros; any other call is lent none
 abbrev pub forRound : Call → ℕ → List ℕ
 forRound call n = replicate (cond (isRound (tellBy call)) n 0) 0
 
--- what a call leaves where its lists for answers are full of zeros
+-- rule 15.6: what a call leaves where its lists for answers are zeros, of the lengths of rule 13.1
 abbrev pub leftBy : Book → List ℕ → Call → List ℕ → List ℤ → Left
 leftBy b register call list prices =
     step b register call
@@ -95,9 +95,11 @@ leftBy b register call list prices =
 abbrev pub withinSlots : ℕ → ℕ
 withinSlots n = cond (ltb pathLimit n) pathLimit n
 
+-- the offers that the reply to open has
 abbrev pub offersOf : Book → List ℕ
 offersOf b = map offerOf (pathsOf b)
 
+-- rule 15.7: the reply to a call, by what it tells
 abbrev pub textBy : Tell → Outcome → List ℕ → List ℕ → List ℕ → List ℕ
 textBy tells.Nothing o amounts answers results = replyText (o .answer) Nothing [] answers (length (pathsOf (o .book))) results
 textBy tells.Offers o amounts answers results = replyText (o .answer) Listed (offersOf (o .book)) answers (length (pathsOf (o .book))) results
@@ -115,10 +117,11 @@ pub record Stepped : Type 0 where
   pub register : List ℕ
   pub text : List ℕ
 
--- "A line that has not this form is refused with 40 and changes nothing"
+-- rules 13.40 and 15.4: `= refused 40`
 abbrev pub malformedReply : List ℕ
 malformedReply = replyText (Refused formRefusal) Nothing [] [] 0 []
 
+-- rule 15.4: such a line changes nothing
 abbrev pub turnedAway : Journal → List ℕ → Stepped
 turnedAway j register = record { journal = j; register = register; text = malformedReply }
 
@@ -131,16 +134,17 @@ calledBy call left =
       text = callText call left;
     }
 
--- "and so is a call before an answered `fresh`"
+-- rule 15.4: before a fresh book was answered any call is refused with 40
 abbrev pub callStep : Bool → Journal → List ℕ → Call → List ℕ → List ℤ → Stepped
 callStep true j register call list prices = calledBy call (leftBy (j .book) register call list prices)
 callStep false j register call list prices = turnedAway j register
 
--- "A second `fresh` starts anew"; "a refused one changes nothing"
+-- rule 15.5: an answered fresh book is the journal's; a refused one leaves the journal as it was
 abbrev pub freshState : Journal → ℕ → Book → Journal
 freshState j zero book = record { ready = true; book = book }
 freshState j (suc n) book = j
 
+-- rule 15.5: the words of the register stay
 abbrev pub freshBy : Journal → List ℕ → Outcome → Stepped
 freshBy j register o =
     record {
@@ -149,9 +153,11 @@ freshBy j register o =
       text = replyText (o .answer) Nothing [] [] 0 [];
     }
 
+-- rules 15.4 and 15.5: the line of a fresh book, which is refused with 40 if it has another form
 abbrev pub freshStep : Journal → List ℕ → FreshLine → Stepped
 freshStep j register f = cond (f .present) (freshBy j register (fresh (f .routes) (f .count))) (turnedAway j register)
 
+-- rule 15.4: a line of another form is refused with 40
 abbrev pub saidStep : Journal → List ℕ → Said → List ℕ → List ℤ → Stepped
 saidStep j register Faulty list prices = turnedAway j register
 saidStep j register (Called call n m) list prices = callStep (j .ready) j register call list prices
@@ -161,7 +167,7 @@ abbrev pub callLineStep : Journal → List ℕ → List ℕ → Stepped
 callLineStep j register line =
     saidStep j register (lineSaid wordRoom zones line) (lineWords wordRoom zones line) (linePrices wordRoom zones line)
 
--- "fresh"
+-- rule 15.2: `fresh`
 abbrev pub freshWord : List ℕ
 freshWord = 102 ∷ 114 ∷ 101 ∷ 115 ∷ 104 ∷ []
 
@@ -169,6 +175,7 @@ freshWord = 102 ∷ 114 ∷ 101 ∷ 115 ∷ 104 ∷ []
 abbrev pub isFresh : List ℕ → Bool
 isFresh line = startsWith freshWord line
 
+-- rules 15.2 and 15.4: any line, without its byte 10; an empty one has none of the forms
 unfoldable pub lineStep : Journal → List ℕ → List ℕ → Stepped
 lineStep j register line =
     cond (isFresh line) (freshStep j register (freshSaid (drop (length freshWord) line))) (callLineStep j register line)

@@ -1,3 +1,3 @@
--- Numbers as text, and text put into a list.
+-- Numbers as text (rule 14.2), and text put into a list.
 pub mod Decimal
 pub mod Put

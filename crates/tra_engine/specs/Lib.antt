@@ -1,2 +1,2 @@
--- The library's functions, from what is lent to what they leave.
+-- The library's functions, from what is lent to what they leave (rule 16.1).
 pub mod Library
