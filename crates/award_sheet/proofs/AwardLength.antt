@@ -1,4 +1,4 @@
--- "The output buffer is 65,536 bytes": every award sheet fits.
+-- Every award sheet fits an output buffer of 65,536 bytes (rule 14.11).
 use mathlib.Core.Path.{_≡_}
 use mathlib.Core.Bool.{Bool, true, false, cond}
 use mathlib.Core.List.{List, [], _∷_, _++_}

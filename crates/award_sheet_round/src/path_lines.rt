@@ -8,7 +8,7 @@ ghost use Rattle.text_numbers.specs.Put.{Put};
 ghost use Rattle.text_fields.specs.Fields.{newline};
 ghost use Rattle.award_sheet_round.specs.RoundLines.{priceField, awardPathLine, awardPathLines};
 
-// Writes a price, or "-" if there is none, at the end of its line.
+// Writes a price, or `-` if there is none, at the end of its line (rule 14.10).
 fn put_price(out: &mut [u8], at: usize, price: u64) -> usize
     requires { ⌜ at + length (priceField price ++ (newline ∷ [])) ≤ length (now out) ⌝ }
     ensures { λ r. ⌜ Put (now (out .entry)) at (priceField price ++ (newline ∷ [])) (now (out .exit)) r ⌝ }

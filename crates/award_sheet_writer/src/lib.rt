@@ -1,4 +1,4 @@
-// An award sheet being written.
+// The writer of an award sheet.
 use market::book::Book;
 ghost use mathlib.Core.Path.{_≡_};
 ghost use mathlib.Core.Bool.{true};
@@ -11,7 +11,7 @@ ghost use Rattle.market.specs.Answers.{formRefusal};
 ghost use Rattle.award_sheet_parts.specs.AwardSheet.{biddersText, isBidder, refusedLine, refusedText, titleText};
 ghost use Rattle.award_sheet_writer.specs.Written.{emptyWriter, writerAfter, answeredText};
 
-// The output buffer, and how many of its bytes are filled.
+// The output buffer, and how much of it is written, from its front on (rule 14.11).
 pub struct Writer<'a> {
     pub out: &'a mut [u8],
     pub filled: usize,

@@ -53,7 +53,7 @@ fn bidder(cash: u64, applied: u64, letter: u64, hold: u64, owed: u64) -> Bidder 
     }
 }
 
-// The book after the paper's sheet: bidders 3 and 7 have won, and the register counts `entries`.
+// The book after the worked sheet of `promise_cases`: bidders 3 and 7 have won, and the register counts `entries`.
 fn book_of_sheet(entries: usize) -> Book {
     let routes = [Route {
         direction: Direction::Export,
@@ -217,7 +217,7 @@ fn amounts() {
     default_five(bidder(1_000, 2_000, 5, 5, 10_000));
 }
 
-// The step goes up with a default and down with a payment; the multipliers of steps 0 to 3 are 10, 8, 5, 1.
+// The step goes up with a default and down with a payment (rules 8.2 and 8.7).
 fn step_case(step: u32) {
     let mut debtor = bidder(10_000, 0, 0, 0, 10);
     debtor.step = step;

@@ -141,7 +141,7 @@ fn heading(name: &[u8]) {
     report::line();
 }
 
-// Provincial charges of 1 and 1 with 1 and 3 MWh, and an export charge of 1 with 5 MWh.
+// The worked case of `promise_cases`: participants 0 and 1 pay a provincial charge of 1 each, for 1 and 3 MWh, and participant 2 an export charge of 1, for 5.
 fn three() -> Lists {
     let one = at_meters(filled(0, 0), 0, 1, 1);
     let two = at_meters(one, 1, 1, 3);

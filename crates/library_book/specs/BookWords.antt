@@ -123,7 +123,7 @@ stageAt words =
     (Open (kindIn (getD words 3 0)) (narrow (getD words 4 0))
     (record { first = dayNumber (narrow (getD words 5 0)); last = dayNumber (narrow (getD words 6 0)) }))
 
--- what a function gives for 0, 1 and so on, as many as are asked for
+-- what a function gives for the numbers from 0 on, as many as are asked for
 abbrev pub gathered : {X : Type 0} → (ℕ → X) → ℕ → List X
 gathered f zero = []
 gathered f (suc n) = gathered f n ++ (f n ∷ [])

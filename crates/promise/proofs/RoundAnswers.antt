@@ -1,5 +1,5 @@
--- What an answered round says: its lists are the rules', no rival award has a higher value, its own award is one of them, and no
--- bid or bidder is charged more than its bid value.
+-- What an answered round says (rules 12.4 to 12.8): its lists are the rules', no rival award has a higher value, its own award is one of them, and
+-- the charges of bids and bidders are within price × MW of the filled pairs.
 use mathlib.Core.Path.{_≡_, refl, sym, _∙_, ap, ap₂, subst}
 use mathlib.Core.Bool.{Bool, true, false, cond}
 use mathlib.Core.List.{List, [], _∷_}
@@ -140,12 +140,12 @@ module _ (b : Book) (words : List ℕ) (l : Lent) (none : answerNumber (roundMad
   same-value : totalValue (wonIn answers) bids ≡ totalValue (λ k. wonBy k awards) bids
   same-value = value-same (wonIn answers) (λ k. wonBy k awards) 0 bids each-won
 
-  -- "in each answered round its total bid value is at least that of every rival award"
+  -- rule 12.7: no rival award has a total bid value above its own
   pub no-rival-above : NoRivalAbove (roundMade b words l)
   no-rival-above gives legal =
       omega (arith, same-value, best-award (b .«path_count») (offeredNow b) bids marks (opened .right) gives legal)
 
-  -- and its own is one of them
+  -- rule 12.6: its own is one of them
   same-award : filledAward (λ k. wonBy k awards) bids ≡ filledAward (wonIn answers) bids
   same-award = λ i place. sym (filled-same (wonIn answers) (λ k. wonBy k awards) 0 0 bids each-won place) i
 
@@ -161,7 +161,7 @@ module _ (b : Book) (words : List ℕ) (l : Lent) (none : answerNumber (roundMad
             ∙ sym same-value;
       }
 
-  -- "no bid is charged more than its bid value for what it won"
+  -- rule 12.8: the charge of a bid is within price × MW of its filled pairs
   pub bids-within : BidsWithin (roundMade b words l)
   bids-within k d inside =
       let same = ap (λ (won : ℕ). filledValue won (getD bids k d .laminations)) (wins k inside) in

@@ -1,5 +1,5 @@
--- Demand 3, proved: for every fresh book that is answered, every register of at least 6,144 words with any contents, and every
--- list of the eleven calls, refused ones included.
+-- The promise (rules 12.1 to 12.11), proved of every fresh book that is answered, every register of 6,144 words or more, whatever they are, and
+-- every list of the eleven calls, refused ones included.
 use mathlib.Core.Path.{_≡_, refl, sym, _∙_, ap, subst}
 use mathlib.Core.List.{List, []}
 use Prim.Native.Nat.{ℕ, _≤_}

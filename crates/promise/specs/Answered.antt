@@ -37,7 +37,7 @@ pub record ListsTold (m : Made) : Type 0 where
 
 -- ---- The award
 
--- rule 12.5: a rival award gives a pair of an admitted bid at most the pair's MW, and on no path more than the round offers
+-- rule 12.5: for each pair of the bids admitted a number of MW, at most the pair's; on each path they add up to at most what the round offers
 abbrev pub RivalOf : Made → Rival → Type 0
 RivalOf m gives = Legal (offeredNow (m .before)) (claimsMade m) gives
 

@@ -44,7 +44,7 @@ abbrev pub leftWith : Left → Effect
 leftWith left =
     record { outcome = left .outcome; entries = countedEntries (left .outcome .book) (left .words); lists = left .lists }
 
--- rule 12.1: the first call has the fresh book and any register words; each later one has what the call before it left, and its own lists
+-- rule 12.1: the first call has the fresh book and whatever the register holds; each later one has what the call before it left, and its own lists
 abbrev pub engineStep : Book → List ℕ → Request → Left
 engineStep b words r = step b words (r .what) (r .lent)
 

@@ -1,2 +1,2 @@
--- The starred cases, computed.
+-- The worked cases, computed.
 pub mod TheCases

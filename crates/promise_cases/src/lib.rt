@@ -1,1 +1,1 @@
-// The starred cases: rows in `specs/`, computed in `proofs/`. There is nothing to run here.
+// The worked cases: rows in `specs/`, computed in `proofs/`. There is nothing to run here.

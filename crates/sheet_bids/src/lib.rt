@@ -1,4 +1,4 @@
-// The bid sections of a sheet, handed back as the parts of it that they occupy, and their words.
+// The bid sections of a sheet, as sub-slices of its bytes, and their words (rule 14.6).
 use sheet_form::form::Found;
 use sheet_lines::part::Part;
 ghost use mathlib.Core.Path.{_≡_};

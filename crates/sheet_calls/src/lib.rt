@@ -1,4 +1,4 @@
-// Fresh book, deposits, open: the calls of a sheet before its first round, in the order of the sheet; and the numbers of its bidders.
+// The calls of a sheet before its first round (rule 14.6), and the numbers of its bidders.
 mod deposits;
 mod slots;
 
@@ -32,7 +32,7 @@ fn open_with(book: Book, kind: Kind, period: Period, paths: PathRows) -> Outcome
     call_open::open(book, &words, kind, period, &all[..counted])
 }
 
-// Fresh book, deposits, open; the first refusal ends the calls.
+// The calls up to open; the first that is refused is the last (rule 14.7).
 pub fn opened(kind: Kind, period: Period, bidders: BidderRows, paths: PathRows) -> Outcome
     requires { ⌜ every isListed (bidders .lines) ≡ true ⌝ }
     ensures { λ r. ⌜ r ≡ openedSlots kind period (take (bidders .count) (bidders .lines)) paths ⌝ }

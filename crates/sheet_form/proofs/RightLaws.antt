@@ -1,5 +1,5 @@
--- What is known of a well-formed sheet: it has a title, it has few bidders, and its bid sections are the parts of it that are
--- handed back.
+-- What is known of a well-formed sheet: it has a title, it has few bidders, and its bid sections are the parts of its bytes that
+-- rule 14.6 names.
 use mathlib.Core.Path.{_≡_, refl, sym, _∙_, ap, ap₂}
 use mathlib.Core.Bool.{true, _&&_}
 use mathlib.Core.List.{List, [], _∷_}

@@ -12,7 +12,7 @@ ghost use Rattle.sheet_lines.specs.declared.part.Part.the-variants.{Bids};
 ghost use Rattle.sheet_form.specs.Form as rules;
 ghost use Rattle.sheet_form.specs.Sheet.{roundsOf};
 
-// Whether a text is a well-formed sheet; if not, the first faulty line, from 1, or 0 for a text that is too long.
+// Whether a text is a well-formed sheet; if not, the number of the line at which it stops being one, or 0 for a text of too many bytes (rule 14.8).
 pub enum Form {
     Right,
     Faulty(u32),
@@ -204,7 +204,7 @@ pub fn kind_in(bytes: &[u8]) -> Kind
     Kind::Short
 }
 
-// The form of a text: the first faulty line, from 1, or 0 for a text that is too long.
+// The form of a text (rule 14.8).
 pub fn form_of(bytes: &[u8]) -> Found
     ensures form { λ r. ⌜ r .form ≡ rules.formOf (now (bytes .entry)) ⌝ }
     ensures places { λ r. ⌜ rules.IfRight (r .form) (rules.PlacesAre (now (bytes .entry)) (titleUsed (now (bytes .entry))) r) ⌝ }

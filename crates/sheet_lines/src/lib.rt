@@ -53,7 +53,7 @@ fn letter_at(bytes: &[u8], at: usize, one: u8, other: u8) -> bool
     bytes[at + 1] == text_fields::SPACE
 }
 
-// The title: kind, first and last day.
+// The title: its word, the kind and the two days (rule 14.3).
 pub fn title_used(bytes: &[u8]) -> usize
     ensures title { λ r. ⌜ r ≡ titleUsed (now (bytes .entry)) ⌝ }
     ensures fits { λ r. ⌜ r ≤ length (now (bytes .entry)) ⌝ }
@@ -147,7 +147,7 @@ pub fn path_used(bytes: &[u8], at: usize, number: u64) -> usize
     both(path.used, route_used(bytes, at + path.used))
 }
 
-// A bid's line: bidder, path, stamp, n, and n pairs of price and MW.
+// A bid's line: bidder, path, stamp, the number of pairs, and exactly so many pairs (rule 14.4).
 pub fn bid_used(bytes: &[u8], at: usize) -> usize
     requires { ⌜ at ≤ length (now bytes) ⌝ }
     ensures bid { λ r. ⌜ r ≡ bidUsed (drop at (now (bytes .entry))) ⌝ }

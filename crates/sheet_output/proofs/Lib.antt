@@ -1,4 +1,4 @@
--- The paper's sheet, and the output of a well-formed sheet.
+-- The output of a sheet, by its form, and of a well-formed sheet, call by call.
 pub mod OutputLaws
 pub mod RunLaws
 pub mod SheetRun

@@ -1,4 +1,4 @@
-// From the bytes of a sheet to the bytes of its output.
+// From the bytes of a sheet to the bytes of its output (rules 14.6 to 14.11).
 mod sheet;
 
 use award_sheet::refusals;

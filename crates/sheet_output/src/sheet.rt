@@ -67,7 +67,7 @@ fn run_long(bytes: &[u8], found: Found, book: Book, listed: &[u32], out: &mut [u
     sheet_rounds::long_output(book, &words[..count], &later[..later_count], listed, out)
 }
 
-// Fresh book, deposits, open and rounds, and the output of these calls.
+// All calls of the sheet (rule 14.6), and their output.
 pub fn run(bytes: &[u8], found: Found, out: &mut [u8]) -> usize
     requires { ⌜ formOf (now bytes) ≡ Form.Right ⌝ }
     requires { ⌜ PlacesAre (now bytes) (titleUsed (now bytes)) found ⌝ }

@@ -1,4 +1,4 @@
--- "One bid per bidder and path": so a round takes at most as many bids as there are pairs of a bidder and a path.
+-- A bidder bids at most once for a path (rule 7.4): so a round takes at most as many bids as there are pairs of a bidder and a path.
 use mathlib.Core.Path.{_≡_, refl, sym, _∙_, ap, ap₂}
 use mathlib.Core.Bool.{Bool, true, false, cond, not, _&&_, _||_, false≢true}
 use mathlib.Core.List.{List, [], _∷_}

@@ -1,4 +1,4 @@
-// The sheet program: a sheet from standard input, and its output to standard output.
+// The program `tra` (rule 14.12): a sheet from standard input, and its output to standard output.
 use libc::STDIN_FILENO;
 use market::engine::Engine;
 

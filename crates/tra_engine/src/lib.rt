@@ -1,4 +1,4 @@
-// The engine as a static library for C and Rust programs. Each function may be called with any arguments: none has a requirement
+// The engine as a static library for C and Rust programs (rule 16.1). Each function may be called with any arguments: none has a requirement
 // on them.
 use journal_step::Journal;
 use journal_step::LINE_BYTES;

@@ -1,5 +1,5 @@
 -- Three calls and no branch: `bid-here` joins the bytes of the three first numbers, the count n read after them, and
--- the `1 + 2 * n` numbers from n on. A number has at most 13 digits (`number-small`), so that sum does not wrap.
+-- the `1 + 2 * n` numbers from n on. No number has more than 13 digits (`number-small`), so that sum does not wrap.
 use native.Mathlib.Omega.{arith}
 use Prim.Native.Nat.{_+_}
 use mathlib.Core.Path.{_∙_}

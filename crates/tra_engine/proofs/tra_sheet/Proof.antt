@@ -1,5 +1,5 @@
--- By cases on the reply of desk::output, which its contract names: a written count is stored and 0 is returned, a
--- refusal's number is returned and the count stays; the buffer is as desk::output leaves it.
+-- By cases on the reply of sheet_output::output, which its contract names: a written count is stored and 0 is returned,
+-- a refusal's number is returned and the count stays; the buffer is as sheet_output::output leaves it.
 use mathlib.Core.Path.{sym, _∙_, ap}
 use Rattle.sheet_output.specs.declared.Reply.{Reply}
 use Rattle.tra_engine.specs.Library.{replyNumber, replyCount}

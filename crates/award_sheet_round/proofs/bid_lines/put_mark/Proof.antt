@@ -1,4 +1,4 @@
--- By cases on the mark: the word is "admitted" (`mark-admitted`) or "over" (`mark-over`). In both cases one call writes
+-- By cases on the mark: the word is `admitted` (`mark-admitted`) or `over` (`mark-over`). In both cases one call writes
 -- the whole text.
 use borrow.Author.Needs.{needs}
 use native.Mathlib.Omega.{arith}
