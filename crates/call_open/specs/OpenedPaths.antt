@@ -27,15 +27,13 @@ quantitiesAt quantities i =
 abbrev pub wordsNeeded : Book → ℕ
 wordsNeeded b = b .«path_count» * quantityWords
 
--- rules 6.3 and 6.6: path `i` with its offer, and nothing sold, where `es` are the entries of the register
+-- rule 6.6: a path with its offer, and nothing sold
+abbrev pub offering : Path → ℕ → Path
+offering p mw = record { direction = p .direction; zone = p .zone; offer = megawatts mw; sold = megawatts 0 }
+
+-- rules 6.3 and 6.6: path `i` opened, where `es` are the entries of the register
 abbrev pub openedPath : Kind → Period → List Entry → List ℕ → ℕ → Path → Path
-openedPath kind period es quantities i p =
-    record {
-      direction = p .direction;
-      zone = p .zone;
-      offer = megawatts (auctionOffer kind (quantitiesAt quantities i) (outstanding i period es));
-      sold = megawatts 0;
-    }
+openedPath kind period es quantities i p = offering p (auctionOffer kind (quantitiesAt quantities i) (outstanding i period es))
 
 -- rules 2.1 and 6.6: the slots with the first `n` paths opened, and the others as they were
 abbrev pub openedPaths : Kind → Period → List Entry → List ℕ → List Path → ℕ → List Path
