@@ -25,7 +25,7 @@ pub enum Funds {
     Letter,
 }
 
-// What a bidder deposits: cash, and a letter of credit; 0 means no deposit.
+// What a bidder deposits: cash, and a letter of credit; where an amount is 0 there is no such deposit.
 pub struct BidderDeposits {
     pub bidder: u32,
     pub cash: Cents,
@@ -102,7 +102,7 @@ fn withdraw_sound(book: Book, bidder: u32, from: Funds, amount: Cents) -> Outcom
     }
 }
 
-// A withdrawal of cash, or of the letter less what is held of it.
+// A withdrawal of cash, or of what is not held of the letter.
 pub fn withdraw(book: Book, bidder: u32, from: Funds, amount: Cents) -> Outcome
     ensures { λ r. ⌜ r ≡ outcomeOf (withdrawals.withdraw bidder from amount) book noRegister ⌝ }
 {

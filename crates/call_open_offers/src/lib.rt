@@ -8,7 +8,7 @@ ghost use Prim.Native.Nat.{_-_, min};
 ghost use Rattle.market.specs.Books.{megawatts};
 ghost use Rattle.call_open_offers.specs.Offers.{capability, longOffer, shortOffer, auctionOffer, longOffered, roundOffer};
 
-// What open takes for each path: the base quantity, the financial upper limit, and the expected capabilities A and B.
+// The four quantities that open takes for a path (rule 6.2): base, FUL, A and B.
 pub struct Quantities {
     pub base: Megawatts,
     pub upper: Megawatts,
@@ -35,7 +35,7 @@ fn left(whole: Megawatts, taken: Megawatts) -> Megawatts
     Megawatts(whole.0 - taken.0)
 }
 
-// The least of the upper limit and the expected capabilities.
+// The least of FUL, A and B.
 fn capability_of(of: Quantities) -> Megawatts
     ensures { λ r. ⌜ r ≡ megawatts (capability of) ⌝ }
 {

@@ -1,5 +1,5 @@
-// The register's counted entries: those of a bidder issued, some removed, and the megawatts outstanding on each path, which are those
-// of its entries whose period shares a day with a given one.
+// The register's counted entries: those of a bidder issued, some removed, and the megawatts outstanding on each path (rule 6.3), which
+// are those of its entries that overlap a given period.
 use market::book::Entry;
 use market::book::Period;
 use market::engine::Engine;
@@ -64,7 +64,7 @@ fn keep(words: &mut [u32], i: usize, kept: usize, what: Removal) -> usize
     kept + 1
 }
 
-// Removes the entries that `what` names; the others keep their order. Returns how many stay.
+// Removes the entries that `what` names; the others move up in their order. Returns how many stay.
 pub fn remove(words: &mut [u32], count: usize, what: Removal) -> usize
     requires { ⌜ count * entryWords ≤ length (now words) ⌝ }
     ensures kept { λ r. ⌜ r ≡ length (without what (entriesOf (now (words .entry)) count)) ⌝ }
@@ -77,7 +77,7 @@ pub fn remove(words: &mut [u32], count: usize, what: Removal) -> usize
     kept
 }
 
-// The megawatts of an entry if its period shares a day with `period`, else 0.
+// The megawatts of an entry if it overlaps `period`, else 0.
 fn counted(period: Period, entry: Entry) -> Megawatts
     ensures { λ r. ⌜ r ≡ megawatts (cond (sharesDay (entry .period) period) (entry .quantity .0) 0) ⌝ }
 {
@@ -92,8 +92,8 @@ fn counted(period: Period, entry: Entry) -> Megawatts
     Megawatts(0)
 }
 
-// The megawatts outstanding on each path: those of its counted entries whose period shares a day with `period`. One pass over the
-// entries adds each to its path.
+// The megawatts outstanding on each path: those of its counted entries that overlap `period`. One pass over the entries adds each to
+// its path.
 pub fn outstanding(
     words: &[u32],
     count: usize,
