@@ -1,5 +1,5 @@
 -- The engine's constants, each named here once (rule 1.6): release, edition, and the limits of the rules named at them. `Engine` has the same as
--- associated constants.
+-- associated constants. What only journals need is in the journal's crates.
 use mathlib.Core.List.{List, [], _∷_}
 use Prim.Native.Nat.{ℕ, _+_, _*_, _^_}
 
