@@ -29,15 +29,13 @@ quantitiesAt quantities i =
 abbrev pub wordsNeeded : Book → ℕ
 wordsNeeded b = b .«path_count» * quantityWords
 
--- "Open stores the offer and sets sold to 0": path `i`, where `es` are the register's entries
+-- "Open stores the offer and sets sold to 0"
+abbrev pub offering : Path → ℕ → Path
+offering p mw = record { direction = p .direction; zone = p .zone; offer = megawatts mw; sold = megawatts 0 }
+
+-- path `i` opened, where `es` are the register's entries
 abbrev pub openedPath : Kind → Period → List Entry → List ℕ → ℕ → Path → Path
-openedPath kind period es quantities i p =
-    record {
-      direction = p .direction;
-      zone = p .zone;
-      offer = megawatts (auctionOffer kind (quantitiesAt quantities i) (outstanding i period es));
-      sold = megawatts 0;
-    }
+openedPath kind period es quantities i p = offering p (auctionOffer kind (quantitiesAt quantities i) (outstanding i period es))
 
 -- the slots with the first `n` paths opened, and the others as they were
 abbrev pub openedPaths : Kind → Period → List Entry → List ℕ → List Path → ℕ → List Path
