@@ -82,7 +82,7 @@ function fits(label, path) {
     if (label == "definition") return path ~ /\/specs\/[^\/]*\.antt$|\/src\/.*\.rt$/
     if (label == "contract") return path ~ /\/src\/.*\.rt$|\/proofs\/[^\/]*\.antt$/
     if (label == "proof") return path ~ /\/proofs\/.*\.antt$/
-    if (label == "refuted") return path ~ /\/must-fail\/[^\/]*\.edit$|\/std(in|out)$|^bench\//
+    if (label == "refuted") return path ~ /\/must-fail\/[^\/]*\.edit$|\/std(in|out)$|^(bench|bindings)\//
     if (label == "functions") return path ~ /\/src\/.*\.rt$/
     return 1
 }
