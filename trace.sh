@@ -183,7 +183,7 @@ FNR == 1 { file++ }
 # The rule book: its sections, and each rule with its name and place.
 file == 1 {
     if ($0 ~ /^## /) section = substr($0, 4)
-    if ($0 !~ /^\*\*[0-9]+\.[0-9]+ [^*]+\*\*/) next
+    if ($0 !~ /^\*\*[0-9]+\.[0-9]+ [^*]+\*\* \(/) next
     number = substr($1, 3)
     text = substr($0, 4 + length(number))
     rule[++rules] = number
