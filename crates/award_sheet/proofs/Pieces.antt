@@ -1,6 +1,6 @@
 -- An award sheet is its title, its rounds and its bidders, one after another.
 use mathlib.Core.Path.{_≡_, _∙_, ap}
-use mathlib.Core.List.{List, [], _∷_, _++_, append-assoc, append-nil}
+use mathlib.Core.List.{[], List, _∷_, _++_, append-assoc, append-nil}
 use Prim.Native.Nat.{ℕ}
 use lib.ListN.{length}
 use Rattle.market.specs.declared.book.Book.{Book}

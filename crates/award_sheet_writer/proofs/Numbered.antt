@@ -27,14 +27,14 @@ use denote.Laws.{Typed, Is, shows}
 use denote.Plain.{UInt, uint-lawful, uint-vals, uint-tells}
 use denote.Builtin.{u8, usize, SliceRefMutOf}
 use denote.Ref.{now}
-use denote.Signature.{Signature, plain, namedLft}
+use denote.Signature.{plain, namedLft}
 use denote.Steps.{only, peeks}
 use denote.Struct.Laws as LL
 use denote.Triple.Call.{calls-from}
 use denote.Triple.Clauses.{Ended, Clauses, closing}
 use denote.Triple.Spec.{Meets, tripleOf}
 use denote.Triple.Statement.{Contract, Triple}
-use denote.Triple.Walked.{says, Stays, stay-dropped, walkOf, goes-dropped, Walks, ends-at, walked, walk-meets}
+use denote.Triple.Walked.{says, Stays, stay-dropped, walkOf, goes-dropped, ends-at, walked, walk-meets}
 use Rattle.text_numbers.specs.Put.{Put}
 use Rattle.award_sheet_writer.specs.Written.{writerAfter}
 use Rattle.award_sheet_writer.specs.declared.Writer.{Writer}

@@ -1,6 +1,4 @@
--- Document 01, "Default (idle): forfeit = min(cash + applied + letter, floor(value/10)). Applied returns to cash; the forfeit is
--- taken from cash, then drawn on the letter, and goes to the account. Owed and hold become 0, its pending entries are removed, the
--- others keep their order, step rises by one up to 3. The answer carries the letter draw."
+-- Default: rules 8.4 to 8.8.
 use mathlib.Core.Bool.{not}
 use mathlib.Core.List.{List, [], _∷_}
 use Prim.Native.Nat.{ℕ, _+_, _-_, _/_, min}
@@ -20,19 +18,19 @@ use Rattle.call_rules.specs.Money.{nothing, drawnIn}
 use Rattle.call_rules.specs.Rule.{Rule, noFronts}
 use Rattle.call_rules.specs.Rule.Register.{changed}
 
--- "forfeit = min(cash + applied + letter, floor(value/10))"
+-- rule 8.5: the forfeit
 abbrev pub forfeitOf : Bidder → ℕ
 forfeitOf x = min (heldOf x + x .letter .0) (valueOf x / 10)
 
--- "taken from cash, then drawn on the letter": cash and applied cash come first, the letter covers what they lack
+-- rule 8.6: the draw on the letter, which is what cash and applied cash together lack
 abbrev pub drawOf : Bidder → ℕ
 drawOf x = forfeitOf x - heldOf x
 
--- "goes to the account"
+-- rule 8.6: the account gains the forfeit
 abbrev pub accountForfeited : Book → ℕ → ℤ
 accountForfeited b i = b .account .0 +ℤ pos (forfeitOf (bidderOf b i))
 
--- 20 wrong stage; 10 "number over 31"; 24 "default at owed 0"; 31 "account beyond ±10^15"
+-- rules 8.4, 13.20, 13.10, 13.24 and 13.31, in the order of the rows: only a bidder that owes something defaults
 abbrev pub defaultRefusals : Book → ℕ → List Row
 defaultRefusals b i =
     (not (isIdle (b .stage)) gives 20)
@@ -41,7 +39,7 @@ defaultRefusals b i =
     ∷ (not (soundAccount (accountForfeited b i)) gives 31)
     ∷ []
 
--- "Applied returns to cash; .. Owed and hold become 0, .. step rises by one up to 3"
+-- rule 8.7: the bidder after a default
 abbrev pub defaulted : Bidder → Bidder
 defaulted x =
     record {
@@ -53,14 +51,15 @@ defaulted x =
       step = min (x .step + 1) stepLimit;
     }
 
+-- rules 8.6 and 8.7: the book after it, with the number of entries as before
 abbrev pub bookForfeited : Book → ℕ → Book
 bookForfeited b i = withAccount (withBidder b i (defaulted (bidderOf b i))) (accountForfeited b i)
 
--- "its pending entries are removed, the others keep their order"
+-- rule 8.8: the bidder's pending entries leave, and the other entries stay in their order
 abbrev pub entriesDefaulted : ℕ → List Entry → List Entry
 entriesDefaulted i es = without (PendingOf i) es
 
--- "The answer carries the letter draw.", and that money comes in
+-- rules 8.6, 8.8 and 12.10: a default as a call: it answers the draw, which comes in
 unfoldable pub default : ℕ → Rule
 default i =
     record {

@@ -1,2 +1,2 @@
--- The rule of default.
+-- Default: rules 8.4 to 8.8.
 pub mod Default

@@ -61,7 +61,7 @@ fn cash_left(bidder: Bidder) -> Cents
     Cents(held - lost.0)
 }
 
-// A step raised by one, up to the last.
+// A step, one higher unless it is the last.
 fn risen(step: u32) -> u32
     ensures { λ r. ⌜ r ≡ min (step + 1) stepLimit ⌝ }
 {

@@ -1,4 +1,4 @@
--- Where disburse leaves at least the reserve, or recover leaves 0 or less, a sound account stays sound.
+-- A sound account that disburse or recover leaves as rule 11.8 allows stays sound.
 use mathlib.Core.Path.{_≡_, refl}
 use mathlib.Core.Bool.{Bool, true, false, cond, false≢true}
 use Prim.Native.Nat.{ℕ, zero, suc, _+_, _-_, _≤_}

@@ -1,5 +1,4 @@
--- Document 01, "Disburse, recover (001): total D, and per participant provincial charge, export charge (whole dollars), energy
--- withdrawn at meters, energy withdrawn at interties (whole MWh)."
+-- Disburse and recover, what they are lent, and their refusals: rules 11.1, 11.2, 11.7, 11.8, 13.1 and 13.32.
 use mathlib.Core.Bool.{Bool, not, _&&_}
 use mathlib.Core.List.{List, [], _∷_, _++_}
 use Prim.Native.Nat.{ℕ}
@@ -23,7 +22,7 @@ use Rattle.call_disburse.specs.declared.flow.Flow.the-variants.{Out, In}
 
 -- ---- What is lent
 
--- the four columns, and "Shares go to a lent list of 32."
+-- rules 11.2 and 11.7: the lists of the four columns, and the list for the shares
 pub record PoolLists : Type 0 where
   pub provincial : List ℕ
   pub export : List ℕ
@@ -35,7 +34,7 @@ abbrev pub poolLists : List ℕ → List ℕ → List ℕ → List ℕ → List 
 poolLists provincial export meters interties shares =
     record { provincial = provincial; export = export; meters = meters; interties = interties; shares = shares }
 
--- a list with at least one word for each participant
+-- rule 13.1: a list, and each of the five, has a word or more for each participant
 abbrev pub reachesAll : List ℕ → Bool
 reachesAll l = leb bidderLimit (length l)
 
@@ -47,7 +46,7 @@ allLongEnough l =
     && reachesAll (l .interties)
     && reachesAll (l .shares)
 
--- a column is the first 32 words of a list: words after them are no part of it
+-- rule 11.2: a column is the first 32 words of its list, and words past them are not read
 abbrev pub columnsFrom : List ℕ → List ℕ → List ℕ → List ℕ → Columns
 columnsFrom provincial export meters interties =
     record {
@@ -62,23 +61,23 @@ columnsOf l = columnsFrom (l .provincial) (l .export) (l .meters) (l .interties)
 
 -- ---- The account
 
--- "Disburse takes D from the account, recover adds D to it."
+-- rule 11.8: the account after disburse, and after recover
 abbrev pub accountAfterFlow : Flow → Book → Cents → ℤ
 accountAfterFlow Out b d = b .account .0 -ℤ pos (d .0)
 accountAfterFlow In b d = b .account .0 +ℤ pos (d .0)
 
--- "Disburse leaves at least 2×10^9 in the account; recover is at most the shortfall below 0."
+-- rule 11.8: the account may be left so: disburse leaves the reserve in it, and recover does not take it above 0
 abbrev pub withinBound : Flow → ℤ → Bool
 withinBound Out after = leZ (pos reserve) after
 withinBound In after = leZ after (pos 0)
 
 -- ---- Refusals, in their order
 
--- 1 "a lent buffer shorter than stated"
+-- rule 13.1: one of the five lists is too short
 abbrev pub shortPoolLists : PoolLists → List Row
 shortPoolLists l = (not (allLongEnough l) gives 1) ∷ []
 
--- 32 "D outside 1 to 10^11 or its bound"
+-- rules 11.1 and 13.32: D is 0, or above its limit, or would leave the account as it may not be
 abbrev pub totalRefusals : Flow → Book → Cents → List Row
 totalRefusals flow b d =
     (eqb (d .0) 0 gives 32)
@@ -88,7 +87,7 @@ totalRefusals flow b d =
 
 -- ---- The calls
 
--- the shares are the money: they go out with a disbursement, and come in with a recovery
+-- rule 12.10: the shares are the money, which goes out with a disbursement and comes in with a recovery
 abbrev pub sharesOut : Flow → Reply → ℕ
 sharesOut Out = listed
 sharesOut In = nothing
@@ -97,7 +96,7 @@ abbrev pub sharesIn : Flow → Reply → ℕ
 sharesIn Out = nothing
 sharesIn In = listed
 
--- one rule for both directions; the columns are tested after the total
+-- rules 11.1 and 11.7: one rule for both calls, in either stage: the total is tested before the columns, and the shares are written to their list
 unfoldable pub settle : Flow → Cents → PoolLists → Rule
 settle flow d l =
     record {
@@ -114,6 +113,7 @@ settle flow d l =
       out = sharesOut flow;
     }
 
+-- rule 11.1: disburse and recover as calls
 abbrev pub disburse : Cents → PoolLists → Rule
 disburse d l = settle Out d l
 

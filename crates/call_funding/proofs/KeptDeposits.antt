@@ -7,7 +7,7 @@ use Prim.Native.Nat.{ℕ, zero, suc}
 use native.Mathlib.Omega.{arith}
 use lib.Dec.{eqb}
 use borrow.Author.Tests.{ne-eqb}
-use Rattle.market.specs.Answers.{answerNumber, answered, refused, firstOf, decided}
+use Rattle.market.specs.Answers.{answerNumber, answered, refused, decided}
 use Rattle.market.specs.Books.{every, cents, bidderOf, withBidder}
 use Rattle.market.specs.Sound.{soundBook}
 use Rattle.market.specs.declared.answer.Outcome.{Outcome}

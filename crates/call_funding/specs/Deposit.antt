@@ -1,5 +1,4 @@
--- Document 01, "Deposit, withdraw (either stage). Cash or letter, amount 1 cent or more. After a deposit, cash + applied may
--- be at most 10^12; the letter too."
+-- Deposit: rules 5.1 and 5.2.
 use mathlib.Core.Bool.{Bool, not}
 use mathlib.Core.List.{List, [], _∷_, _++_}
 use Prim.Native.Nat.{ℕ, _+_}
@@ -16,21 +15,22 @@ use Rattle.call_funding.specs.Funding.{fundingRefusals, fundingOn, cashO
 use Rattle.call_funding.specs.declared.Funds.{Funds}
 use Rattle.call_funding.specs.declared.Funds.the-variants.{Cash, Letter}
 
--- "After a deposit, cash + applied may be at most 10^12; the letter too."
+-- rule 5.2: the amount does not take cash + applied, or the letter, past the limit
 abbrev pub hasRoom : Bidder → Funds → Cents → Bool
 hasRoom x Cash amount = leb (heldOf x + amount .0) moneyLimit
 hasRoom x Letter amount = leb (x .letter .0 + amount .0) moneyLimit
 
--- 10 and 11 as for both calls; 11 "a deposit limit passed"
+-- rules 13.10 and 13.11: the rows of both calls, and then a deposit past its limit
 abbrev pub depositRefusals : Book → ℕ → Funds → Cents → List Row
 depositRefusals b i to amount =
     fundingRefusals i amount ++ (not (hasRoom (bidderOf b i) to amount) gives 11) ∷ []
 
--- the bidder after a deposit of the amount
+-- rule 5.2: the bidder with the amount added to its cash, or to its letter
 abbrev pub withDeposit : Bidder → Funds → Cents → Bidder
 withDeposit x Cash amount = withCash x (x .cash .0 + amount .0)
 withDeposit x Letter amount = withLetter x (x .letter .0 + amount .0)
 
+-- rules 5.2 and 12.10: a deposit as a call, with which cash comes in
 unfoldable pub deposit : ℕ → Funds → Cents → Rule
 deposit i to amount =
     record {

@@ -1,4 +1,4 @@
--- The rules of deposit and withdraw, and of deposits one after another.
+-- Deposit and withdraw, rules 5.1 to 5.3, and deposits one after another, rule 14.6.
 pub mod Funding
 pub mod Deposit
 pub mod Deposits

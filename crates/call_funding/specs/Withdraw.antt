@@ -1,4 +1,4 @@
--- Document 01, "Withdrawal is from cash, or from letter less hold."
+-- Withdraw: rules 5.1 and 5.3.
 use mathlib.Core.Bool.{not}
 use mathlib.Core.List.{List, [], _∷_, _++_}
 use Prim.Native.Nat.{ℕ, _-_}
@@ -14,21 +14,22 @@ use Rattle.call_funding.specs.Funding.{fundingRefusals, fundingOn, cashO
 use Rattle.call_funding.specs.declared.Funds.{Funds}
 use Rattle.call_funding.specs.declared.Funds.the-variants.{Cash, Letter}
 
--- what may be withdrawn: "cash, or .. letter less hold"
+-- rule 5.3: what may go: all cash but nothing of applied, and of the letter what is not held
 abbrev pub withdrawable : Bidder → Funds → ℕ
 withdrawable x Cash = x .cash .0
 withdrawable x Letter = x .letter .0 - x .hold .0
 
--- 10 and 11 as for both calls; 12 "more than may be withdrawn"
+-- rules 13.10, 13.11 and 13.12: the rows of both calls, and then more than the bidder may take out
 abbrev pub withdrawRefusals : Book → ℕ → Funds → Cents → List Row
 withdrawRefusals b i from amount =
     fundingRefusals i amount ++ (not (leb (amount .0) (withdrawable (bidderOf b i) from)) gives 12) ∷ []
 
--- the bidder after a withdrawal of the amount
+-- rule 5.3: the bidder with the amount taken off its cash, or off its letter
 abbrev pub debited : Bidder → Funds → Cents → Bidder
 debited x Cash amount = withCash x (x .cash .0 - amount .0)
 debited x Letter amount = withLetter x (x .letter .0 - amount .0)
 
+-- rules 5.3 and 12.10: a withdrawal as a call, with which cash goes out
 unfoldable pub withdraw : ℕ → Funds → Cents → Rule
 withdraw i from amount =
     record {

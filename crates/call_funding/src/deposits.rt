@@ -19,7 +19,7 @@ ghost use Rattle.call_rules.specs.Steps.{noRegister, outcomeOf};
 ghost use Rattle.call_funding.specs.Deposit.{deposit};
 ghost use Rattle.call_funding.specs.Deposits.{depositIf, bidderDeposits, listDeposits, noDeposit};
 
-// A deposit.
+// A deposit of cash, or of a letter of credit.
 pub fn deposit_sound(book: Book, bidder: u32, to: Funds, amount: Cents) -> Outcome
     requires { ⌜ soundBook book ≡ true ⌝ }
     ensures { λ r. ⌜ r ≡ outcomeOf (deposit bidder to amount) book noRegister ⌝ }

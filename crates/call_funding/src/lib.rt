@@ -16,7 +16,7 @@ ghost use Rattle.market.specs.Limits.{bidderLimit};
 ghost use Rattle.market.specs.Sound.{soundBook};
 ghost use Rattle.call_rules.specs.Steps.{noRegister, outcomeOf};
 ghost use Rattle.call_funding.specs.Deposit as deposit_rule;
-ghost use Rattle.call_funding.specs.Deposits as lists;
+ghost use Rattle.call_funding.specs.Deposits.{listDeposits};
 ghost use Rattle.call_funding.specs.Withdraw as withdrawals;
 
 // What is deposited or withdrawn: cash, or a letter of credit.
@@ -25,7 +25,7 @@ pub enum Funds {
     Letter,
 }
 
-// What a bidder deposits: cash, and a letter of credit; 0 means no deposit.
+// What a bidder deposits: cash, and a letter of credit; where an amount is 0 there is no such deposit.
 pub struct BidderDeposits {
     pub bidder: u32,
     pub cash: Cents,
@@ -51,7 +51,7 @@ pub fn deposit(book: Book, bidder: u32, to: Funds, amount: Cents) -> Outcome
     deposits::deposit_sound(book, bidder, to, amount)
 }
 
-// How many of a list's slots are listed.
+// How many slots of a list count: at most all of them.
 fn slots_listed(count: usize) -> usize
     ensures { λ r. ⌜ r ≡ min count bidderLimit ⌝ }
 {
@@ -64,7 +64,7 @@ fn slots_listed(count: usize) -> usize
 // Deposits one after another, for each bidder cash and then letter; the first refusal ends them. The book is tested once for all of
 // them: one that is not sound gets 2 at the first deposit that is asked for, and where none is asked for nothing is refused.
 pub fn deposit_all(book: Book, list: DepositList) -> Outcome
-    ensures { λ r. ⌜ r ≡ lists.listDeposits book (take (list .count) (list .bidders)) ⌝ }
+    ensures { λ r. ⌜ r ≡ listDeposits book (take (list .count) (list .bidders)) ⌝ }
 {
     let bidders = list.bidders;
     let count = slots_listed(list.count);
@@ -102,7 +102,7 @@ fn withdraw_sound(book: Book, bidder: u32, from: Funds, amount: Cents) -> Outcom
     }
 }
 
-// A withdrawal of cash, or of the letter less what is held of it.
+// A withdrawal of cash, or of what is not held of the letter.
 pub fn withdraw(book: Book, bidder: u32, from: Funds, amount: Cents) -> Outcome
     ensures { λ r. ⌜ r ≡ outcomeOf (withdrawals.withdraw bidder from amount) book noRegister ⌝ }
 {

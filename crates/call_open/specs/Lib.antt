@@ -1,4 +1,3 @@
--- The rule of open.
--- The rule of the paths that open makes.
+-- Open, and the paths that it makes: rules 6.1 to 6.6.
 pub mod Open
 pub mod OpenedPaths

@@ -1,5 +1,4 @@
--- Document 01, "Open needs idle and every value 0. It takes kind S or L, first and last day, and per path a base quantity, a
--- financial upper limit (FUL) and two expected capabilities A and B, each 0 to 9,999 MW. Open stores the offer and sets sold to 0."
+-- Open: rules 6.1, 6.2 and 6.6, and its refusals.
 use mathlib.Core.Bool.{not}
 use mathlib.Core.List.{List, [], _∷_}
 use Prim.Native.Nat.{ℕ}
@@ -18,11 +17,12 @@ use Rattle.call_rules.specs.Rule.{Rule, noFronts}
 use Rattle.call_rules.specs.Rule.Register.{read}
 use Rattle.call_open.specs.OpenedPaths.{wordsNeeded, openedPaths}
 
--- 1 "a lent buffer shorter than stated": the quantities of the book's paths
+-- rules 6.2 and 13.1: fewer quantities than four for each of the book's paths
 abbrev pub shortQuantities : Book → List ℕ → List Row
 shortQuantities b quantities = (not (leb (wordsNeeded b) (length quantities)) gives 1) ∷ []
 
--- 20 "wrong stage, or open with a value above 0"; 21 "first day after last, or a day over 65,535"; 25 "path quantity over 9,999"
+-- rules 6.1, 13.20, 13.21 and 13.25: an auction is open, or some bidder has a value; the period is not right; a quantity is too large, of either
+-- kind, where words past those of the book's paths are not read (rule 6.2)
 abbrev pub openRefusals : Book → Period → List ℕ → List Row
 openRefusals b period quantities =
     (not (isIdle (b .stage)) gives 20)
@@ -31,11 +31,12 @@ openRefusals b period quantities =
     ∷ (not (every soundQuantity (take (wordsNeeded b) quantities)) gives 25)
     ∷ []
 
--- "open with the next round and the period": everything else stays
+-- rule 6.6: the paths have their offers, the stage is open at round 1, and all else stays
 abbrev pub bookOpened : Book → List Entry → Kind → Period → List ℕ → Book
 bookOpened b es kind period quantities =
     withAuction b (openedPaths kind period es quantities (b .paths) (b .«path_count»)) (Open kind 1 period)
 
+-- rules 6.1 and 6.6: open as a call, which reads the register (rule 3.4); no money moves
 unfoldable pub «open» : Kind → Period → List ℕ → Rule
 «open» kind period quantities =
     record {

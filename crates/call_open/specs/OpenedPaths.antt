@@ -1,5 +1,4 @@
--- The paths that open makes. Document 01: "per path a base quantity, a financial upper limit (FUL) and two expected capabilities
--- A and B, each 0 to 9,999 MW. Open stores the offer and sets sold to 0."
+-- The paths that open makes of its quantities: rules 6.2, 6.3 and 6.6.
 use mathlib.Core.List.{List}
 use Prim.Native.Nat.{ℕ, zero, suc, _+_, _*_}
 use lib.ListN.{getD, set}
@@ -14,8 +13,7 @@ use Rattle.call_open_offers.specs.Offers.{auctionOffer}
 use Rattle.call_open_offers.specs.declared.Quantities.{Quantities}
 use Rattle.register.specs.Entries.{outstanding}
 
--- "per path a base quantity, a financial upper limit (FUL) and two expected capabilities A and B": the four quantities
--- of path `i`; the list has them in that order, path after path
+-- rule 6.2: the four quantities of path `i`, which the list has in this order, path after path
 abbrev pub quantitiesAt : List ℕ → ℕ → Quantities
 quantitiesAt quantities i =
     record {
@@ -25,21 +23,19 @@ quantitiesAt quantities i =
       second = megawatts (getD quantities (i * quantityWords + 3) 0);
     }
 
--- how many words the quantities of the book's paths take
+-- rule 6.2: how many words the quantities of the book's paths take
 abbrev pub wordsNeeded : Book → ℕ
 wordsNeeded b = b .«path_count» * quantityWords
 
--- "Open stores the offer and sets sold to 0": path `i`, where `es` are the register's entries
-abbrev pub openedPath : Kind → Period → List Entry → List ℕ → ℕ → Path → Path
-openedPath kind period es quantities i p =
-    record {
-      direction = p .direction;
-      zone = p .zone;
-      offer = megawatts (auctionOffer kind (quantitiesAt quantities i) (outstanding i period es));
-      sold = megawatts 0;
-    }
+-- rule 6.6: a path with its offer, and nothing sold
+abbrev pub offering : Path → ℕ → Path
+offering p mw = record { direction = p .direction; zone = p .zone; offer = megawatts mw; sold = megawatts 0 }
 
--- the slots with the first `n` paths opened, and the others as they were
+-- rules 6.3 and 6.6: path `i` opened, where `es` are the entries of the register
+abbrev pub openedPath : Kind → Period → List Entry → List ℕ → ℕ → Path → Path
+openedPath kind period es quantities i p = offering p (auctionOffer kind (quantitiesAt quantities i) (outstanding i period es))
+
+-- rules 2.1 and 6.6: the slots with the first `n` paths opened, and the others as they were
 abbrev pub openedPaths : Kind → Period → List Entry → List ℕ → List Path → ℕ → List Path
 openedPaths kind period es quantities slots zero = slots
 openedPaths kind period es quantities slots (suc n) =

@@ -66,7 +66,7 @@ fn refusal(book: Book, words: &[u32], period: Period, quantities: &[u32]) -> u32
     own_refusal(book, period, quantities)
 }
 
-// Opens an auction for a period, with four quantities for each path: base, upper limit, and the expected capabilities A and B.
+// Opens an auction for a period, with the four quantities of each path: base, FUL, A and B.
 pub fn open(book: Book, words: &[u32], kind: Kind, period: Period, quantities: &[u32]) -> Outcome
     ensures { λ r. ⌜ r ≡ outcomeOf (rules.«open» kind period (now (quantities .entry))) book (now (words .entry)) ⌝ }
 {

@@ -7,12 +7,12 @@ use market::book::Period;
 use market::engine::Engine;
 use market::units::Megawatts;
 ghost use mathlib.Core.Path.{_≡_};
-ghost use Prim.Native.Nat.{_+_, _*_, _≤_, _<_};
-ghost use lib.ListN.{length, getD};
-ghost use Rattle.market.specs.Books.{noPath};
+ghost use Prim.Native.Nat.{_+_, _*_, _≤_};
+ghost use lib.ListN.{length};
 ghost use Rattle.market.specs.Limits.{quantityWords};
 ghost use Rattle.register.specs.Refusals.{countedEntries, LentRegister};
-ghost use Rattle.call_open.specs.OpenedPaths.{quantitiesAt, wordsNeeded, openedPath, openedPaths};
+ghost use Rattle.call_open_offers.specs.Offers.{auctionOffer};
+ghost use Rattle.call_open.specs.OpenedPaths.{quantitiesAt, wordsNeeded, offering, openedPaths};
 
 // The four quantities of a path.
 fn quantities_at(quantities: &[u32], i: usize) -> Quantities
@@ -28,31 +28,11 @@ fn quantities_at(quantities: &[u32], i: usize) -> Quantities
     }
 }
 
-// A path of the book with its offer, and nothing sold.
-fn opened_path(
-    book: Book,
-    words: &[u32],
-    kind: Kind,
-    period: Period,
-    quantities: &[u32],
-    i: usize,
-) -> Path
-    requires { ⌜ LentRegister book (now words) ⌝ }
-    requires { ⌜ wordsNeeded book ≤ length (now quantities) ⌝ }
-    requires { ⌜ i < book .«path_count» ⌝ }
-    ensures { λ r. ⌜ r ≡ openedPath kind period (countedEntries book (now (words .entry))) (now (quantities .entry)) i (getD (book .paths) i noPath) ⌝ }
+// A path with its offer, where `out` is outstanding on it, and nothing sold.
+fn opened_path(path: Path, kind: Kind, of: Quantities, out: Megawatts) -> Path
+    ensures { λ r. ⌜ r ≡ offering path (auctionOffer kind of (out .0)) ⌝ }
 {
-    let path = book.paths[i];
     let direction = path.direction;
-    let number = i as u32;
-    let out = register_entries::outstanding_on(
-        words,
-        book.entries,
-        book.path_count,
-        number,
-        period,
-    );
-    let of = quantities_at(quantities, i);
     let offer = call_open_offers::offer(kind, of, out);
     Path {
         direction,
@@ -62,7 +42,7 @@ fn opened_path(
     }
 }
 
-// The slots of the book with its paths opened.
+// The slots of the book with its paths opened. The register is read once for all of them.
 pub fn opened_paths(
     book: Book,
     words: &[u32],
@@ -74,10 +54,13 @@ pub fn opened_paths(
     requires { ⌜ wordsNeeded book ≤ length (now quantities) ⌝ }
     ensures { λ r. ⌜ r ≡ openedPaths kind period (countedEntries book (now (words .entry))) (now (quantities .entry)) (book .paths) (book .«path_count») ⌝ }
 {
-    let mut paths = book.paths;
+    let slots = book.paths;
     let count = book.path_count;
+    let out = register_entries::outstanding(words, book.entries, count, period);
+    let mut paths = slots;
     for i in 0..count {
-        let path = opened_path(book, words, kind, period, quantities, i);
+        let of = quantities_at(quantities, i);
+        let path = opened_path(slots[i], kind, of, out[i]);
         paths[i] = path;
     }
     paths

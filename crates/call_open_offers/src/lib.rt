@@ -8,7 +8,7 @@ ghost use Prim.Native.Nat.{_-_, min};
 ghost use Rattle.market.specs.Books.{megawatts};
 ghost use Rattle.call_open_offers.specs.Offers.{capability, longOffer, shortOffer, auctionOffer, longOffered, roundOffer};
 
-// What open takes for each path: the base quantity, the financial upper limit, and the expected capabilities A and B.
+// The four quantities that open takes for a path (rule 6.2): base, FUL, A and B.
 pub struct Quantities {
     pub base: Megawatts,
     pub upper: Megawatts,
@@ -16,50 +16,49 @@ pub struct Quantities {
     pub second: Megawatts,
 }
 
-fn least(a: u32, b: u32) -> u32
-    ensures { λ r. ⌜ r ≡ min a b ⌝ }
+fn least(a: Megawatts, b: Megawatts) -> Megawatts
+    ensures { λ r. ⌜ r ≡ megawatts (min (a .0) (b .0)) ⌝ }
 {
-    if a <= b {
+    if a.0 <= b.0 {
         return a;
     }
     b
 }
 
 // What is left of a quantity when `taken` is taken from it; 0 where that is more than there is.
-fn left(whole: u32, taken: u32) -> u32
-    ensures { λ r. ⌜ r ≡ whole - taken ⌝ }
+fn left(whole: Megawatts, taken: Megawatts) -> Megawatts
+    ensures { λ r. ⌜ r ≡ megawatts (whole .0 - taken .0) ⌝ }
 {
-    if whole <= taken {
-        return 0;
+    if whole.0 <= taken.0 {
+        return Megawatts(0);
     }
-    whole - taken
+    Megawatts(whole.0 - taken.0)
 }
 
-// The least of the upper limit and the expected capabilities.
-fn capability_of(of: Quantities) -> u32
-    ensures { λ r. ⌜ r ≡ capability of ⌝ }
+// The least of FUL, A and B.
+fn capability_of(of: Quantities) -> Megawatts
+    ensures { λ r. ⌜ r ≡ megawatts (capability of) ⌝ }
 {
     let upper = of.upper;
     let first = of.first;
     let second = of.second;
-    least(upper.0, least(first.0, second.0))
+    least(upper, least(first, second))
 }
 
-fn short_offer(of: Quantities, out: Megawatts) -> u32
-    ensures { λ r. ⌜ r ≡ shortOffer of (out .0) ⌝ }
+fn short_offer(of: Quantities, out: Megawatts) -> Megawatts
+    ensures { λ r. ⌜ r ≡ megawatts (shortOffer of (out .0)) ⌝ }
 {
-    left(capability_of(of), out.0)
+    left(capability_of(of), out)
 }
 
-fn long_offer(of: Quantities, out: Megawatts) -> u32
-    ensures { λ r. ⌜ r ≡ longOffer of (out .0) ⌝ }
+fn long_offer(of: Quantities, out: Megawatts) -> Megawatts
+    ensures { λ r. ⌜ r ≡ megawatts (longOffer of (out .0)) ⌝ }
 {
     let base = of.base;
     let upper = of.upper;
-    let whole = base.0;
-    let base_left = left(whole, out.0);
-    let upper_left = left(upper.0, out.0);
-    let quarter = whole / Engine::QUARTERS;
+    let base_left = left(base, out);
+    let upper_left = left(upper, out);
+    let quarter = Megawatts(base.0 / Engine::QUARTERS);
     least(
         quarter,
         least(capability_of(of), least(base_left, upper_left)),
@@ -71,20 +70,20 @@ pub fn offer(kind: Kind, of: Quantities, out: Megawatts) -> Megawatts
     ensures { λ r. ⌜ r ≡ megawatts (auctionOffer kind of (out .0)) ⌝ }
 {
     match kind {
-        Kind::Short => Megawatts(short_offer(of, out)),
-        Kind::Long => Megawatts(long_offer(of, out)),
+        Kind::Short => short_offer(of, out),
+        Kind::Long => long_offer(of, out),
     }
 }
 
-fn long_offered(round: u32, path: Path) -> u32
-    ensures { λ r. ⌜ r ≡ longOffered round path ⌝ }
+fn long_offered(round: u32, path: Path) -> Megawatts
+    ensures { λ r. ⌜ r ≡ megawatts (longOffered round path) ⌝ }
 {
     let offer = path.offer;
     let sold = path.sold;
     if round == 1 {
-        return offer.0 / Engine::QUARTERS;
+        return Megawatts(offer.0 / Engine::QUARTERS);
     }
-    left(offer.0, sold.0)
+    left(offer, sold)
 }
 
 // What a round offers of a path.
@@ -93,6 +92,6 @@ pub fn offered_in(kind: Kind, round: u32, path: Path) -> Megawatts
 {
     match kind {
         Kind::Short => path.offer,
-        Kind::Long => Megawatts(long_offered(round, path)),
+        Kind::Long => long_offered(round, path),
     }
 }

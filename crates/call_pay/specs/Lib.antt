@@ -1,2 +1,2 @@
--- The rule of pay.
+-- Pay: rules 8.1 to 8.3.
 pub mod Pay

@@ -1,5 +1,4 @@
--- Document 01, "Pay (idle): amount equals owed, 0 included. Account gains the value; applied, owed and hold become 0, its entries
--- are issued, step falls by one if above 0."
+-- Pay: rules 8.1 to 8.3.
 use mathlib.Core.Bool.{not}
 use mathlib.Core.List.{List, [], _∷_, map}
 use Prim.Native.Nat.{ℕ, _-_}
@@ -17,11 +16,11 @@ use Rattle.call_rules.specs.Money.{ifAnswered, nothing}
 use Rattle.call_rules.specs.Rule.{Rule, noFronts}
 use Rattle.call_rules.specs.Rule.Register.{changed}
 
--- "Account gains the value"
+-- rule 8.2: the account gains the bidder's value
 abbrev pub accountPaid : Book → ℕ → ℤ
 accountPaid b i = b .account .0 +ℤ pos (valueOf (bidderOf b i))
 
--- 20 wrong stage; 10 "number over 31"; 13 "payment other than owed"; 24 "pay at value 0"; 31 "account beyond ±10^15"
+-- rules 8.1, 13.20, 13.10, 13.13, 13.24 and 13.31, in the order of the rows: the amount must be what is owed, and 0 settles only a value above 0
 abbrev pub payRefusals : Book → ℕ → Cents → List Row
 payRefusals b i amount =
     (not (isIdle (b .stage)) gives 20)
@@ -31,15 +30,16 @@ payRefusals b i amount =
     ∷ (not (soundAccount (accountPaid b i)) gives 31)
     ∷ []
 
--- "applied, owed and hold become 0, .. step falls by one if above 0"
+-- rule 8.2: the bidder after it has paid; the step of one at step 0 stays
 abbrev pub paid : Bidder → Bidder
 paid x =
     record { cash = x .cash; applied = cents 0; letter = x .letter; hold = cents 0; owed = cents 0; step = x .step - 1 }
 
+-- rule 8.2: the book after a bidder has paid
 abbrev pub bookPaid : Book → ℕ → Book
 bookPaid b i = withAccount (withBidder b i (paid (bidderOf b i))) (accountPaid b i)
 
--- "its entries are issued"; the payment is new money
+-- rules 8.2, 8.3 and 12.10: a payment as a call: the bidder's entries become issued, and the amount is new money that comes in
 unfoldable pub pay : ℕ → Cents → Rule
 pay i amount =
     record {

@@ -23,7 +23,7 @@ pub fn value(bidder: Bidder) -> Cents
     Cents(applied.0 + owed.0)
 }
 
-// A bidder pays what it owes, with new money; its entries are issued.
+// A bidder pays what it owes, with new money; all its entries become issued.
 pub fn pay(book: Book, words: &mut [u32], bidder: u32, amount: Cents) -> Outcome
     ensures outcome { λ r. ⌜ r ≡ outcomeOf (payments.pay bidder amount) book (now (words .entry)) ⌝ }
     ensures words { λ r. ⌜ now (words .exit) ≡ wordsAfter (payments.pay bidder amount) book (now (words .entry)) ⌝ }

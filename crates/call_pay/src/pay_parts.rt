@@ -68,7 +68,7 @@ fn paid_bidder(bidder: Bidder) -> Bidder
     }
 }
 
-// A step lowered by one if it is above 0.
+// A step, one lower unless it is 0.
 fn fallen(step: u32) -> u32
     ensures { λ r. ⌜ r ≡ step - 1 ⌝ }
 {

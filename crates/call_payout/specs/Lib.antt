@@ -1,2 +1,2 @@
--- The rule of payout.
+-- Payout: rules 10.2 to 10.5.
 pub mod Payout

@@ -48,7 +48,7 @@ fn hour_refusal(day: Day, failed: bool, prices: &[i64]) -> u32
 }
 
 // Writes what each bidder's issued rights earn in an hour of a day, failed or priced, to the front of the list that is lent for
-// the amounts; the account pays. Nothing is written before it is known that nothing is refused.
+// the amounts; the account loses their sum. Nothing is written before it is known that nothing is refused.
 pub fn payout(
     book: Book,
     words: &[u32],

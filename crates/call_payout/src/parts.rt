@@ -46,7 +46,7 @@ fn rates_of(
     rates
 }
 
-// Whether an entry is issued and valid on a day.
+// Whether an entry earns on a day: it is issued, and its period has the day.
 fn pays_on(day: Day, entry: Entry) -> bool
     ensures { λ r. ⌜ r ≡ paysOn day entry ⌝ }
 {

@@ -1,2 +1,2 @@
--- The rule of rent.
+-- Rent: rule 10.1.
 pub mod Rent

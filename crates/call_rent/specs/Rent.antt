@@ -1,4 +1,4 @@
--- Document 01, "Rent: 1 to 10^12 cents into the account."
+-- Rent: rule 10.1.
 use mathlib.Core.Bool.{not}
 use mathlib.Core.List.{List, [], _∷_}
 use lib.Dec.{leb, eqb}
@@ -13,11 +13,11 @@ use Rattle.call_rules.specs.Money.{ifAnswered, nothing}
 use Rattle.call_rules.specs.Rule.{Rule, noFronts}
 use Rattle.call_rules.specs.Rule.Register.{unlent}
 
--- the account with the rent
+-- rule 10.1: the account with the rent
 abbrev pub accountWithRent : Book → Cents → ℤ
 accountWithRent b amount = b .account .0 +ℤ pos (amount .0)
 
--- 11 "amount 0 .., rent over 10^12"; 31 "account beyond ±10^15"
+-- rules 10.1, 13.11 and 13.31: the amount is outside its range, or the account would be outside its limits
 abbrev pub rentRefusals : Book → Cents → List Row
 rentRefusals b amount =
     (eqb (amount .0) 0 gives 11)
@@ -25,6 +25,7 @@ rentRefusals b amount =
     ∷ (not (soundAccount (accountWithRent b amount)) gives 31)
     ∷ []
 
+-- rules 10.1 and 12.10: rent as a call, in either stage; the amount comes in
 unfoldable pub rent : Cents → Rule
 rent amount =
     record {

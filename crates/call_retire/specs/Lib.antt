@@ -1,2 +1,2 @@
--- The rule of retire.
+-- Retire: rule 9.1.
 pub mod Retire

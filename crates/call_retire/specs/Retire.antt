@@ -1,4 +1,4 @@
--- Document 01, "Retire a day: removes issued entries whose last day is before it; order is kept and later rounds use the places."
+-- Retire: rule 9.1.
 use mathlib.Core.Bool.{not}
 use mathlib.Core.List.{List, [], _∷_}
 use lib.Dec.{leb}
@@ -14,14 +14,15 @@ use Rattle.call_rules.specs.Money.{nothing}
 use Rattle.call_rules.specs.Rule.{Rule, noFronts}
 use Rattle.call_rules.specs.Rule.Register.{changed}
 
--- 21 "a day over 65,535"
+-- rule 13.21: the day is above the highest day number
 abbrev pub retireRefusals : Day → List Row
 retireRefusals day = (not (leb (day .0) dayLimit) gives 21) ∷ []
 
--- "removes issued entries whose last day is before it; order is kept"
+-- rule 9.1: the issued entries that ended before the day leave, and the other entries stay in their order
 abbrev pub entriesRetired : Day → List Entry → List Entry
 entriesRetired day es = without (EndedBefore day) es
 
+-- rule 9.1: retire as a call, in either stage; no money moves
 unfoldable pub retire : Day → Rule
 retire day =
     record {

@@ -1,4 +1,4 @@
-// Retire: removes from the register the issued entries that have ended.
+// Retire: the issued entries that have ended leave the register.
 use market::answer::Answer;
 use market::answer::Outcome;
 use market::answer::Refusal;
@@ -24,7 +24,7 @@ fn refusal(book: Book, words: &[u32], day: Day) -> u32
     Refusal::NONE
 }
 
-// Removes the issued entries whose last day is before `day`.
+// Removes the issued entries that ended before `day`.
 pub fn retire(book: Book, words: &mut [u32], day: Day) -> Outcome
     ensures outcome { λ r. ⌜ r ≡ outcomeOf (rules.retire day) book (now (words .entry)) ⌝ }
     ensures words { λ r. ⌜ now (words .exit) ≡ wordsAfter (rules.retire day) book (now (words .entry)) ⌝ }

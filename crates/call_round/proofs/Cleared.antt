@@ -12,10 +12,10 @@ use Rattle.market.specs.Books.{every}
 use Rattle.market.specs.Limits.{entryLimit, bidListWords, bidAnswerWords, pathAnswerWords, scratchWords}
 use Rattle.market.specs.Sound.{isIdle}
 use Rattle.market.specs.declared.book.Book.{Book}
-use Rattle.round_bids.proofs.EncodingLaws.{bids-right, encodes-back}
+use Rattle.round_bids.proofs.EncodingLaws.{bids-right}
 use Rattle.round_bids.specs.Bids.{Bid, bidsOf, bidAt, bidEnd}
 use Rattle.round_bids.specs.BidRefusals.{bidRefusals, refusalsFrom, listRefusals}
-use Rattle.round_bids.specs.Encoding.{encoded, rightBids}
+use Rattle.round_bids.specs.Encoding.{rightBids}
 use Rattle.register.proofs.Cleared.{register-cleared}
 use Rattle.register.specs.Refusals.{registerRefusals}
 use Rattle.call_rules.proofs.Decides.{ownNumber, own-numbered}
@@ -81,11 +81,10 @@ module _ (b : Book) (bidWords : List ℕ) where
 
 -- ---- The table
 
--- nothing is refused early, the bids are right and are those of the words, and the winners fit
+-- nothing is refused early, the bids are right, and the winners fit
 pub record RoundOpen (b : Book) (words bidWords answers results scratch : List ℕ) : Type 0 where
   pub early : Early b words bidWords answers results scratch
   pub right : rightBids (b .«path_count») (bidsOf bidWords) ≡ true
-  pub encodes : encoded (bidsOf bidWords) ≡ bidWords
   pub room : b .entries + length (entriesNow b (bidsOf bidWords)) ≤ entryLimit
 
 module _ (b : Book) (words bidWords answers results scratch : List ℕ) where
@@ -119,6 +118,5 @@ module _ (b : Book) (words bidWords answers results scratch : List ℕ) where
       record {
         early = early;
         right = bids-right (b .«path_count») bidWords (early .list .clear);
-        encodes = encodes-back (b .«path_count») bidWords (early .list .clear);
         room = winners-fit b bidWords (parts .1);
       }

@@ -1,11 +1,10 @@
--- Document 01, the two lists that a round fills, word by word: "each 1 admitted or 0 over, bid value, MW, charge" and "each
--- offered and sold in this round, price or 0".
+-- The two lists that a round fills, word by word: rules 7.17 and 7.18.
 use mathlib.Core.List.{List}
 use Prim.Native.Nat.{ℕ, _+_, _*_}
 use lib.ListN.{getD}
 use Rattle.market.specs.Limits.{bidAnswerSize, pathAnswerSize}
 
--- the words of a bid, by its number from 0
+-- rule 7.17: the four words of a bid, by its number from 0
 abbrev pub markIn : List ℕ → ℕ → ℕ
 markIn answers bid = getD answers (bid * bidAnswerSize) 0
 
@@ -18,7 +17,7 @@ wonIn answers bid = getD answers (bid * bidAnswerSize + 2) 0
 abbrev pub chargeIn : List ℕ → ℕ → ℕ
 chargeIn answers bid = getD answers (bid * bidAnswerSize + 3) 0
 
--- the words of a path, by its number from 0
+-- rule 7.18: the three words of a path, by its number from 0
 abbrev pub offeredIn : List ℕ → ℕ → ℕ
 offeredIn results path = getD results (path * pathAnswerSize) 0
 

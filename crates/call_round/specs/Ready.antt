@@ -1,4 +1,4 @@
--- What a round may rely on where nothing is refused before its awards are known.
+-- What a round may rely on where nothing is refused before its awards are known. It states no rule: the functions of a round hand it to each other.
 use mathlib.Core.Path.{_≡_}
 use mathlib.Core.Bool.{false}
 use mathlib.Core.List.{List}

@@ -1,4 +1,4 @@
--- Document 01, "Round.": the whole of it, from the book, its entries and the words of the bid list.
+-- The round, from the book, its entries and the words of the bid list: rules 7.12 to 7.19, with what the other crates state of it.
 use mathlib.Core.Bool.{true, not}
 use mathlib.Core.List.{List, [], _∷_, _++_}
 use Prim.Native.Nat.{ℕ, _+_}
@@ -30,19 +30,19 @@ use Rattle.call_rules.specs.Rule.Front.{kept, put}
 
 -- ---- What a round works out, from the book and its bids
 
--- "S has one round with the whole offer; L has two: floor(offer/4), then offer − sold"
+-- rule 6.7: what the round offers of each path
 abbrev pub offeredNow : Book → List ℕ
 offeredNow b = offeredBy (kindOf (b .stage)) (roundOf (b .stage)) b
 
--- "In list order a bid is admitted whole ..; otherwise it is marked over"
+-- rule 7.7: which bids are admitted, and which are over
 abbrev pub marksNow : Book → List Bid → List ℕ
 marksNow b bids = marksOf (biddingLimits b) bids
 
--- "On each path, admitted laminations take min(MW, what is left)"
+-- rules 7.8 and 7.9: what the laminations of the admitted bids take
 unfoldable pub awardsNow : Book → List Bid → List Award
 awardsNow b bids = awardsOf (offeredNow b) bids (marksNow b bids)
 
--- the MW of each bid, and the MW sold and the clearing price of each path
+-- rules 7.9 and 7.10: the MW of each bid, and the MW sold and the clearing price of each path
 abbrev pub wonNow : Book → List Bid → List ℕ
 wonNow b bids = wonTable (awardsNow b bids)
 
@@ -52,21 +52,21 @@ soldNow b bids = soldTable (awardsNow b bids)
 abbrev pub pricesNow : Book → List Bid → List ℕ
 pricesNow b bids = priceTable (awardsNow b bids)
 
--- "Each winning bid adds a pending entry, in bid order."
+-- rule 7.12: the entries of the winning bids
 abbrev pub entriesNow : Book → List Bid → List Entry
 entriesNow b bids = newEntries (periodOf (b .stage)) (wonNow b bids) bids
 
--- "each 1 admitted or 0 over, bid value, MW, charge"
+-- rule 7.17: the words of the bids
 abbrev pub bidAnswersNow : Book → List Bid → List ℕ
 bidAnswersNow b bids = bidRows (marksNow b bids) (wonNow b bids) (pricesNow b bids) bids
 
--- "each offered and sold in this round, price or 0"
+-- rule 7.18: the words of the paths
 abbrev pub pathAnswersNow : Book → List Bid → List ℕ
 pathAnswersNow b bids = pathRows (offeredNow b) (soldNow b bids) (pricesNow b bids) (b .«path_count»)
 
 -- ---- Refusals
 
--- 1 "a lent buffer shorter than stated": a list for the answers of bids or of paths, or the scratch, that is too short
+-- rules 7.17 to 7.19 and rule 13.1: the list for bids, the list for paths or the scratch is too short
 abbrev pub shortRoundLists : List ℕ → List ℕ → List ℕ → List Row
 shortRoundLists answers results scratch =
     (not (leb bidAnswerWords (length answers)) gives 1)
@@ -74,21 +74,21 @@ shortRoundLists answers results scratch =
     ∷ (not (leb scratchWords (length scratch)) gives 1)
     ∷ []
 
--- 20 "wrong stage"; 22 "bid list over 4,096 words"
+-- rules 13.20 and 13.22: no auction is open, or the bid list is too long
 abbrev pub deskRefusals : Book → List ℕ → List Row
 deskRefusals b bidWords =
     (isIdle (b .stage) gives 20) ∷ (not (leb (length bidWords) bidListWords) gives 22) ∷ []
 
--- 23 "register entries plus new awards over 1,024"
+-- rule 13.23: the counted entries and the winning bids are too many for the register
 abbrev pub roomRefusals : Book → List Bid → List Row
 roomRefusals b bids = (not (leb (b .entries + length (entriesNow b bids)) entryLimit) gives 23) ∷ []
 
--- a round's own, in the paper's order: 20, 22, then the first faulty bid's 14, 15 or 16, and 23 last
+-- rule 13.51: a round's own rows in their order: 20, 22, bid after bid 14, 15 and 16, and 23 at the end
 abbrev pub roundRefusals : Book → List ℕ → List Row
 roundRefusals b bidWords =
     deskRefusals b bidWords ++ (listRefusals (b .«path_count») bidWords ++ roomRefusals b (bidsOf bidWords))
 
--- those that need no award: 1, 2, 20, 22, and the first faulty bid's 14, 15 or 16
+-- those that need no award: 1, 2, 20, 22, and bid after bid 14, 15 and 16
 abbrev pub earlyRefusals : Book → List ℕ → List ℕ → List ℕ → List ℕ → List ℕ → List Row
 earlyRefusals b words bidWords answers results scratch =
     shortRoundLists answers results scratch
@@ -96,8 +96,7 @@ earlyRefusals b words bidWords answers results scratch =
 
 -- ---- The round
 
--- "for each of the 32 bidders: its charges are added to owed ..": the book after a round with these MW won, MW sold and clearing
--- prices, and `entries` entries
+-- rules 7.13, 7.15 and 7.16: the book after a round with these MW won, MW sold and clearing prices, and `entries` entries; the account stays
 abbrev pub bookWith : Book → List ℕ → List ℕ → List ℕ → List Bid → ℕ → Book
 bookWith b won sold prices bids entries =
     record {
@@ -109,16 +108,17 @@ bookWith b won sold prices bids entries =
       stage = stageAfter (b .stage);
     }
 
+-- rules 7.12 and 7.16: the book after the round
 abbrev pub bookAfter : Book → List Bid → Book
 bookAfter b bids =
     bookWith b (wonNow b bids) (soldNow b bids) (pricesNow b bids) bids (b .entries + length (entriesNow b bids))
 
--- "The answer carries the number of bids."
+-- rule 7.16: the answer is how many bids the list has
 abbrev pub roundOutcome : Book → List Bid → Outcome
 roundOutcome b bids = record { answer = Bids (length bids); book = bookAfter b bids }
 
--- "Words past the last bid or path stay."; "the scratch, which may hold any words after
--- an answered round"; and no money moves
+-- rules 7.12, 7.16, 7.17, 7.18 and 7.19: a round as a call: the new entries stand behind the others, words past the last bid and the last path
+-- stay, the scratch may hold any words, and no money moves
 unfoldable pub round : List ℕ → List ℕ → List ℕ → List ℕ → Rule
 round bidWords answers results scratch =
     record {

@@ -58,7 +58,7 @@ fn answered(
 // A round of the open auction. `words` is the register, `bids` the list of bids, `answers` and `results` the lists for the
 // answers of bids and paths, and `scratch` where the laminations are put in order. Nothing that is lent is touched before it
 // is known that nothing is refused: where the register has room for every bid the awards are worked out in the scratch, and
-// otherwise apart from it. After an answered round the scratch may hold any words.
+// otherwise apart from it. What an answered round leaves in the scratch is open (rule 7.19).
 pub fn round(
     book: Book,
     words: &mut [u32],

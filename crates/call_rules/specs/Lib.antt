@@ -1,4 +1,5 @@
--- How a call is stated, and what any rule gives: over the words of the register for the engine, over entries for the promise.
+-- How a call's rule is stated, and what any rule gives (rules 13.50 and 13.51): over the words of the register for the engine, over entries for
+-- the promise.
 pub mod Money
 pub mod Rule
 pub mod Rules

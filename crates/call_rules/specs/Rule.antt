@@ -1,5 +1,5 @@
--- What a call's rule says. Each call states one, in its own crate: the refusals of its lent lists, how it has the register, its
--- own refusals, what it answers and leaves where none of them holds, and the money that it moves.
+-- The form in which each call states its rule, in its own crate: the refusals of its lent lists, how it has the register (rule 3.4), its own
+-- refusals, what it answers and leaves where none of them holds, and the money that it moves.
 use mathlib.Core.Bool.{Bool, false}
 use mathlib.Core.List.{List}
 use Prim.Native.Nat.{ℕ}
@@ -9,13 +9,13 @@ use Rattle.market.specs.declared.answer.Outcome.{Outcome}
 use Rattle.market.specs.declared.book.Book.{Book}
 use Rattle.market.specs.declared.book.Entry.{Entry}
 
--- how a call has the register: not at all, to read it, or to change it, which leaves it with these entries
+-- rule 3.4: how a call has the register: not at all, to read it, or to change it, which leaves it with these entries
 pub data Register : Type 0 where
   unlent : Register
   read : Register
   changed : List Entry → Register
 
--- what an answered call does with a list that is lent to be written: it keeps it, or puts words at its front; those past them stay
+-- rules 7.17, 7.18 and 10.5: an answered call keeps a list, or puts words at its front, and words past them keep what they held
 pub data Front : Type 0 where
   kept : Front
   put : List ℕ → Front
@@ -29,7 +29,7 @@ pub record Lists : Type 0 where
 abbrev pub lists : List ℕ → List ℕ → List ℕ → Lists
 lists amounts answers results = record { amounts = amounts; answers = answers; results = results }
 
--- what an answered call does with each of them, and whether the scratch may then hold any words
+-- what an answered call does with each of them, and whether the scratch may then hold any words (rule 7.19)
 pub record Fronts : Type 0 where
   pub amounts : Front
   pub answers : Front

@@ -1,5 +1,5 @@
--- Any rule on a book and the entries that it counts: which call is refused, and what the others leave. No word of the register
--- is read here.
+-- Any rule on a book and the entries that it counts, where no word of the register is read: which call is refused, and what the others leave.
+-- Rules of all calls: rules 3.4, 13.2, 13.50 and 13.51.
 use mathlib.Core.Bool.{not}
 use mathlib.Core.List.{List, _∷_, _++_}
 use Prim.Native.Nat.{ℕ, zero, suc}
@@ -16,29 +16,30 @@ use Rattle.call_rules.specs.Rule.Front.{kept, put}
 
 -- ---- Which calls are answered
 
--- 2 "a book or a counted register entry that is not sound": of the book alone where the register is not lent
+-- rule 13.2: a book that is not sound
 abbrev pub unsoundBook : Book → Row
 unsoundBook b = not (soundBook b) gives 2
 
+-- rules 3.4 and 13.2: a call that is lent the register judges the entries too, and every other call the book alone
 abbrev pub unsoundRow : Register → Book → List Entry → Row
 unsoundRow unlent b es = unsoundBook b
 unsoundRow read b es = unsoundRegister b es
 unsoundRow (changed after) b es = unsoundRegister b es
 
--- "Order: 1, 2, 20, 22, then rising, with 23 and 31 last": all rows but 1 for a short register
+-- rule 13.51: the call's lent lists come first, then soundness, then its own rows; the row of a short register is not among them
 abbrev pub rowsOn : Ruling → Book → List Entry → List Row
 rowsOn ruling b es = ruling .lent ++ (unsoundRow (ruling .register) b es ∷ ruling .own)
 
 -- ---- What a call leaves, by the number of its refusal
 
--- "A refusal returns its number; nothing lent or held differs afterwards.": the entries
+-- rule 13.50: the entries after a call, which a refused one leaves as before
 abbrev pub entriesBy : Register → ℕ → List Entry → List Entry
 entriesBy unlent n es = es
 entriesBy read n es = es
 entriesBy (changed after) zero es = after
 entriesBy (changed after) (suc n) es = es
 
--- a lent list
+-- rule 13.50: a lent list after a call, in the same way; then all three
 abbrev pub listBy : Front → ℕ → List ℕ → List ℕ
 listBy kept n before = before
 listBy (put front) n before = decidedList before n (withFront front before)
@@ -53,12 +54,13 @@ listsBy fronts n before =
 
 -- ---- A call, refused or answered
 
--- what it leaves: answer and book, the entries, and the lists
+-- what a call leaves: answer and book, the entries, and the lists
 pub record Effect : Type 0 where
   pub outcome : Outcome
   pub entries : List Entry
   pub lists : Lists
 
+-- rule 13.50: what a call leaves, by the number of its refusal
 abbrev pub effectBy : Ruling → ℕ → Book → List Entry → Lists → Effect
 effectBy ruling n b es before =
     record {
@@ -67,5 +69,6 @@ effectBy ruling n b es before =
       lists = listsBy (ruling .fronts) n before;
     }
 
+-- rules 13.50 and 13.51: what a call leaves, refused with the first row that holds or answered
 abbrev pub ruled : Rule → Book → List Entry → Lists → Effect
 ruled rule b es before = effectBy (rule .on b es) (firstOf (rowsOn (rule .on b es) b es)) b es before

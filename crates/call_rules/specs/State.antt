@@ -1,5 +1,5 @@
--- A sound state: the book and the entries of the register that belongs to it. It is what the calls test of a book and its
--- entries; besides that there are as many entries as the book counts, and the 32 bidders that the book's type has.
+-- A sound state, which each call of a list finds and leaves: rule 12.3. It is what calls test of a book and its entries, that there are as many
+-- entries as the book counts, and the 32 bidders that the book's type has.
 use mathlib.Core.Path.{_≡_}
 use mathlib.Core.Bool.{true}
 use mathlib.Core.List.{List}
@@ -11,6 +11,7 @@ use Rattle.market.specs.declared.book.Book.{Book}
 use Rattle.market.specs.declared.book.Entry.{Entry}
 use Rattle.register.specs.Refusals.{soundEntries, countedEntries}
 
+-- rules 4.1 to 4.8: the book and its entries are sound
 pub record SoundState (b : Book) (es : List Entry) : Type 0 where
   pub sound : soundBook b ≡ true
   pub entries : soundEntries b es ≡ true

@@ -1,5 +1,5 @@
--- Any rule on a book and the words of the register, as the engine's functions keep it: the entries are those that the book
--- counts in the words, 1 may be given for a short register, and entries that change are written over the words.
+-- Any rule on a book and the words of the register, as the engine's functions keep it: the entries are those that the book counts in the words,
+-- 1 may be given for a short register, and entries that change are written over the words. Rules 3.3, 7.19, 13.50 and 13.51.
 use mathlib.Core.Path.{_≡_}
 use mathlib.Core.Bool.{Bool, true, false}
 use mathlib.Core.List.{List, [], _∷_, _++_}
@@ -14,15 +14,17 @@ use Rattle.call_rules.specs.Rule.{Register, Front, Lists, Fronts, Ruling
 use Rattle.call_rules.specs.Rule.Register.{unlent, read, changed}
 use Rattle.call_rules.specs.Rules.{unsoundBook, listBy}
 
--- 1 and 2 of the register, where it is lent; 2 of the book alone where it is not
+-- rules 3.4, 13.1 and 13.2: the length of the register where it is lent, and soundness
 abbrev pub registerRows : Register → Book → List ℕ → List Row
 registerRows unlent b words = unsoundBook b ∷ []
 registerRows read b words = registerRefusals b words
 registerRows (changed after) b words = registerRefusals b words
 
+-- rule 13.51: all rows of a call in their order: its lent lists, the register and soundness, then its own
 abbrev pub rowsOver : Ruling → Book → List ℕ → List Row
 rowsOver ruling b words = ruling .lent ++ (registerRows (ruling .register) b words ++ ruling .own)
 
+-- a call's ruling, with the entries read from the words
 abbrev pub rulingOf : Rule → Book → List ℕ → Ruling
 rulingOf rule b words = rule .on b (countedEntries b words)
 
@@ -30,27 +32,29 @@ rulingOf rule b words = rule .on b (countedEntries b words)
 abbrev pub noRegister : List ℕ
 noRegister = []
 
--- the number of the refusal, 0 where there is none
+-- rule 13.51: the number of the refusal, 0 where there is none
 unfoldable pub refusalOf : Rule → Book → List ℕ → ℕ
 refusalOf rule b words = firstOf (rowsOver (rulingOf rule b words) b words)
 
--- answer and book
+-- rule 13.50: answer and book after a call
 unfoldable pub outcomeOf : Rule → Book → List ℕ → Outcome
 outcomeOf rule b words = decided b (refusalOf rule b words) (rulingOf rule b words .outcome)
 
--- the words of the register: "No call writes at or past the count it ends with."
+-- rules 3.3 and 13.50: the register's words: a refused call leaves them, and no word past the entries is written
 abbrev pub wordsBy : Register → ℕ → List ℕ → List ℕ
 wordsBy unlent n words = words
 wordsBy read n words = words
 wordsBy (changed after) n words = decidedList words n (entriesWritten words after)
 
+-- rule 3.3: the register's words after a call
 unfoldable pub wordsAfter : Rule → Book → List ℕ → List ℕ
 wordsAfter rule b words = wordsBy (rulingOf rule b words .register) (refusalOf rule b words) words
 
--- a lent list, by which of the fronts is its own
+-- a lent list after a call, by which of the fronts is its own
 unfoldable pub listAfter : (Fronts → Front) → Rule → Book → List ℕ → List ℕ → List ℕ
 listAfter which rule b words before = listBy (which (rulingOf rule b words .fronts)) (refusalOf rule b words) before
 
+-- the front of each list
 abbrev pub toAmounts : Fronts → Front
 toAmounts fronts = fronts .amounts
 
@@ -60,12 +64,13 @@ toAnswers fronts = fronts .answers
 abbrev pub toResults : Fronts → Front
 toResults fronts = fronts .results
 
--- "the scratch, which may hold any words after an answered round": else as it was, and always of the same length
+-- rules 7.19 and 13.50: after an answered round the scratch holds anything, and else what it held; its length stays
 abbrev pub ScratchBy : Bool → ℕ → List ℕ → List ℕ → Type 0
 ScratchBy false n before after = after ≡ before
 ScratchBy true zero before after = length after ≡ length before
 ScratchBy true (suc n) before after = after ≡ before
 
+-- rule 7.19: how the scratch may be after a call
 unfoldable pub ScratchAfter : Rule → Book → List ℕ → List ℕ → List ℕ → Type 0
 ScratchAfter rule b words before after = ScratchBy (rulingOf rule b words .fronts .free) (refusalOf rule b words) before after
 
@@ -78,6 +83,7 @@ pub record Left : Type 0 where
 abbrev pub leaving : Outcome → List ℕ → Lists → Left
 leaving outcome words after = record { outcome = outcome; words = words; lists = after }
 
+-- the three lists after a call, and all that it leaves
 abbrev pub listsAfter : Rule → Book → List ℕ → Lists → Lists
 listsAfter rule b words before =
     record {

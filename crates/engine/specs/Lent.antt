@@ -1,30 +1,31 @@
--- Document 01, "all else lent to a call is that call's own argument, with any contents": the lists that come with a call. Each
--- call reads and writes those that it is lent, and leaves the others.
+-- The lists that come with a call, whose contents are free: rule 12.1. Each call reads and writes those that it is lent, and leaves the others.
 use mathlib.Core.List.{List}
 use Prim.Native.Nat.{ℕ}
 use lib.IntN.{ℤ}
 use Rattle.call_rules.specs.Rule.{Lists, lists}
 use Rattle.call_disburse.specs.Disbursement as pools
 
+-- rule 12.1: all lists that some call is lent
 pub record Lent : Type 0 where
-  -- open: "per path a base quantity, a financial upper limit (FUL) and two expected capabilities A and B"
+  -- open: the quantities of the paths (rule 6.2)
   pub quantities : List ℕ
-  -- round: "Bids are a list of 32-bit words"
+  -- round: the bid list (rule 7.1)
   pub bids : List ℕ
-  -- payout: "16 zone prices"
+  -- payout: the zone prices (rule 10.2)
   pub prices : List ℤ
-  -- disburse and recover: "provincial charge, export charge .., energy withdrawn at meters, energy withdrawn at interties"
+  -- disburse and recover: the four columns (rule 11.2)
   pub provincial : List ℕ
   pub export : List ℕ
   pub meters : List ℕ
   pub interties : List ℕ
-  -- payout's "lent list of 32 amounts", and the "lent list of 32" for shares
+  -- payout, and disburse and recover: the list for the 32 amounts (rule 10.5) or shares (rule 11.7)
   pub amounts : List ℕ
-  -- round: "Two lent lists of 64-bit words .., 2,728 for bids .., 48 for paths", and "The ordering scratch"
+  -- round: the list for bids (rule 7.17), the list for paths (rule 7.18), and the scratch (rule 7.19)
   pub answers : List ℕ
   pub results : List ℕ
   pub scratch : List ℕ
 
+-- the lists of a call, one after another
 abbrev pub lent : List ℕ → List ℕ → List ℤ → List ℕ → List ℕ → List ℕ → List ℕ → List ℕ → List ℕ → List ℕ → List ℕ → Lent
 lent quantities bids prices provincial export meters interties amounts answers results scratch =
     record {

@@ -1,4 +1,4 @@
--- Document 01, "The eleven calls": the rule of each, on its own arguments and lists.
+-- The rule of each of the eleven calls, on its own arguments and lists. Each call's crate names the rules that it states.
 use Rattle.call_rules.specs.Rule.{Rule}
 use Rattle.call_funding.specs.Deposit.{deposit}
 use Rattle.call_funding.specs.Withdraw.{withdraw}
@@ -14,6 +14,7 @@ use Rattle.engine.specs.Lent.{Lent, poolListsOf}
 use Rattle.engine.specs.declared.calls.Call.{Call}
 use Rattle.engine.specs.declared.calls.Call.the-variants.{Deposit, Withdraw, Open, Round, Pay, Default, Retire, Rent, Payout, Disburse, Recover}
 
+-- the rule of a call
 abbrev pub ruleOf : Call → Lent → Rule
 ruleOf (Deposit bidder to amount) l = deposit bidder to amount
 ruleOf (Withdraw bidder from amount) l = withdraw bidder from amount

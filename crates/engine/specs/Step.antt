@@ -8,6 +8,7 @@ use Rattle.engine.specs.Lent.{Lent, listsOf}
 use Rattle.engine.specs.Rules.{ruleOf}
 use Rattle.engine.specs.declared.calls.Call.{Call}
 
+-- what a call leaves of a book, of the words of the register and of the lists
 abbrev pub step : Book → List ℕ → Call → Lent → Left
 step b words what l = stepBy (ruleOf what l) b words (listsOf l)
 

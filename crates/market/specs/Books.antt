@@ -1,5 +1,4 @@
--- Document 01, "Book and units": what the book holds, and a book with one part changed. The types themselves are those that
--- `src/` declares.
+-- The parts of a book, and a book with one of them replaced: rule 1.1 and rules 2.1 to 2.5. The types are those that `src/` declares.
 use mathlib.Core.Bool.{Bool, true, not, _&&_, _||_}
 use mathlib.Core.List.{List, [], _∷_, _++_, map}
 use Prim.Native.Nat.{ℕ, _+_}
@@ -32,7 +31,7 @@ infix 25 _implies_
 abbrev pub _implies_ : Bool → Bool → Bool
 a implies b = not a || b
 
--- "Cents, megawatts and day numbers each have their own kind": a number as one of the kinds
+-- rule 1.1: a number as one of the five kinds
 abbrev pub cents : ℕ → Cents
 cents n = record { 0 = n }
 
@@ -55,15 +54,15 @@ inCents amounts = map (λ x. x .0) amounts
 abbrev pub inMegawatts : List Megawatts → List ℕ
 inMegawatts quantities = map (λ x. x .0) quantities
 
--- "The book holds 1 to 16 paths, numbered from 0": slots past the count are no part of the book
+-- rule 2.1: the paths of a book; slots past their number are no part of it
 abbrev pub pathsOf : Book → List Path
 pathsOf b = take (b .«path_count») (b .paths)
 
--- the MW that the auction offers of a path
+-- rule 2.2: the MW that the auction offers of a path
 abbrev pub offerOf : Path → ℕ
 offerOf p = p .offer .0
 
--- an empty path, which fills the slots past the book's paths
+-- rules 2.1 and 2.2: a path has four numbers; this one is empty and fills the slots past the book's paths
 abbrev pub noPath : Path
 noPath = record { direction = Export; zone = 0; offer = megawatts 0; sold = megawatts 0 }
 
@@ -71,23 +70,23 @@ noPath = record { direction = Export; zone = 0; offer = megawatts 0; sold = mega
 abbrev pub noRoute : Route
 noRoute = record { direction = Export; zone = 0 }
 
--- a bidder with nothing, as in a fresh book: "all else 0"
+-- rules 2.3 and 2.7: a bidder has six numbers, and all are 0 in a fresh book
 abbrev pub noBidder : Bidder
 noBidder = record { cash = cents 0; applied = cents 0; letter = cents 0; hold = cents 0; owed = cents 0; step = 0 }
 
--- "32 bidders, 0 to 31": the bidder with a given number
+-- rule 2.3: the bidder with a given number
 abbrev pub bidderOf : Book → ℕ → Bidder
 bidderOf b i = getD (b .bidders) i noBidder
 
--- "Value = applied + owed."
+-- rule 2.4: a bidder's value
 abbrev pub valueOf : Bidder → ℕ
 valueOf x = x .applied .0 + x .owed .0
 
--- "every value 0": of one bidder
+-- rules 4.6 and 6.1: a bidder has no value above 0
 abbrev pub noValue : Bidder → Bool
 noValue x = eqb (valueOf x) 0
 
--- "Cash held is all cash and applied": of one bidder
+-- rules 4.5 and 12.9: a bidder's cash and applied cash together
 abbrev pub heldOf : Bidder → ℕ
 heldOf x = x .cash .0 + x .applied .0
 
@@ -104,7 +103,7 @@ abbrev pub withLetter : Bidder → ℕ → Bidder
 withLetter x n =
     record { cash = x .cash; applied = x .applied; letter = cents n; hold = x .hold; owed = x .owed; step = x .step }
 
--- a book with one bidder, the count of entries, or the account replaced
+-- a book with one bidder replaced
 abbrev pub withBidder : Book → ℕ → Bidder → Book
 withBidder b i x =
     record {
@@ -116,6 +115,7 @@ withBidder b i x =
       stage = b .stage;
     }
 
+-- rule 3.2: a book with its number of entries replaced
 abbrev pub withEntries : Book → ℕ → Book
 withEntries b n =
     record {
@@ -127,6 +127,7 @@ withEntries b n =
       stage = b .stage;
     }
 
+-- rule 2.5: a book with its account replaced, which is one amount with a sign
 abbrev pub withAccount : Book → ℤ → Book
 withAccount b z =
     record {

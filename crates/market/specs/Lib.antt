@@ -1,4 +1,5 @@
--- The rules of the market's book: its limits, its answers and refusals, what a sound book is, and the fresh book.
+-- The market's book: its limits (rule 1.6), its parts (rules 2.1 to 2.6), what a sound one is (rules 4.1 to 4.7), the fresh book (rule 2.7), and
+-- how calls answer and refuse (rules 13.50 and 13.51).
 pub mod Limits
 pub mod Answers
 pub mod Books

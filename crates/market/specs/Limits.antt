@@ -1,100 +1,101 @@
--- The limits of document 01, each named here once. `Engine` has the same limits as associated constants.
+-- The engine's constants, each named here once (rule 1.6): release, edition, and the limits of the rules named at them. `Engine` has the same as
+-- associated constants. What only journals need is in the journal's crates.
 use mathlib.Core.List.{List, [], _∷_}
 use Prim.Native.Nat.{ℕ, _+_, _*_, _^_}
 
--- "The release number (first 1), the rule edition (first 1)"
+-- rule 1.6: the release of the engine, and the edition of its rules
 abbrev pub release : ℕ
 release = 1
 
 abbrev pub ruleEdition : ℕ
 ruleEdition = 1
 
--- ---- Book and units
+-- ---- The book and the register
 
--- "The book holds 1 to 16 paths"
+-- rules 2.1 and 4.1: the most paths of a book
 abbrev pub pathLimit : ℕ
 pathLimit = 16
 
--- "a zone 0 to 15"
+-- rules 2.2 and 4.4: the highest zone
 abbrev pub zoneLimit : ℕ
 zoneLimit = 15
 
--- "32 bidders, 0 to 31"
+-- rules 2.3 and 11.1: how many bidders there are, and how many participants
 abbrev pub bidderLimit : ℕ
 bidderLimit = 32
 
--- "up to 1,024 entries of six"
+-- rules 3.1 and 3.2: the most entries that a book counts, and the words of one
 abbrev pub entryLimit : ℕ
 entryLimit = 1024
 
 abbrev pub entryWords : ℕ
 entryWords = 6
 
--- "The register, lent, is 6,144 32-bit words"
+-- rule 3.1: the words of a register; more may be lent
 abbrev pub registerWords : ℕ
 registerWords = entryLimit * entryWords
 
--- "state (1 pending, 2 issued)"
+-- rule 3.1: the two states of an entry
 abbrev pub pending : ℕ
 pending = 1
 
 abbrev pub issued : ℕ
 issued = 2
 
--- "owed at most 2×10^13 at round 2"
+-- rule 4.6: the most that a bidder owes before round 2
 abbrev pub roundTwoOwedLimit : ℕ
 roundTwoOwedLimit = 2 * 10 ^ 13
 
--- "cash + applied and letter at most 10^12"; rent too is "1 to 10^12 cents"
+-- rules 4.5, 5.2 and 10.1: the most of a bidder's cash and applied cash together, of its letter, and of one rent
 abbrev pub moneyLimit : ℕ
 moneyLimit = 10 ^ 12
 
--- "owed at most 10^14"
+-- rule 4.5: the most that a bidder owes
 abbrev pub owedLimit : ℕ
 owedLimit = 10 ^ 14
 
--- "step at most 3"
+-- rules 2.3 and 4.5: the highest step
 abbrev pub stepLimit : ℕ
 stepLimit = 3
 
--- "the account within ±10^15"
+-- rule 4.7: how far the account may be from 0, above it or below
 abbrev pub accountLimit : ℕ
 accountLimit = 10 ^ 15
 
--- "sold at most offer at most 9,999"; every quantity of MW has this limit
+-- rules 4.4, 4.8, 6.2 and 7.2: the most MW of an offer, of an entry, of a quantity that open takes, and of a pair of a bid
 abbrev pub quantityLimit : ℕ
 quantityLimit = 9999
 
--- "last at most 65,535"
+-- rules 1.2 and 4.2: the highest day number
 abbrev pub dayLimit : ℕ
 dayLimit = 65535
 
 -- ---- The auction
 
--- "floor(base/4)", "floor(offer/4)"
+-- rules 6.4 and 6.7: what an L auction divides the base by, and its first round the offer
 abbrev pub quarters : ℕ
 quarters = 4
 
--- "per path a base quantity, a financial upper limit (FUL) and two expected capabilities A and B"
+-- rule 6.2: how many quantities open takes for a path
 abbrev pub quantityWords : ℕ
 quantityWords = 4
 
--- "n is 1 to 20"
+-- rule 7.2: the most pairs of a bid
 abbrev pub laminationLimit : ℕ
 laminationLimit = 20
 
--- "price 1 to 10^8"
+-- rule 7.2: the highest price of a pair
 abbrev pub priceLimit : ℕ
 priceLimit = 10 ^ 8
 
--- "bidder, path, stamp, n", then "pairs of price and MW"
+-- rule 7.1: the words of a bid before its pairs, and the words of a pair
 abbrev pub headerWords : ℕ
 headerWords = 4
 
 abbrev pub pairWords : ℕ
 pairWords = 2
 
--- "steps 0 to 3 give 10, 8, 5, 1"
+-- rule 7.6: the multipliers of steps 0, 1, 2 and 3
 abbrev pub multipliers : List ℕ
 multipliers = 10 ∷ 8 ∷ 5 ∷ 1 ∷ []
 
@@ -102,14 +103,14 @@ multipliers = 10 ∷ 8 ∷ 5 ∷ 1 ∷ []
 abbrev pub biddingLimitTop : ℕ
 biddingLimitTop = 10 * (moneyLimit + moneyLimit)
 
--- "1 admitted or 0 over"
+-- rule 7.17: the mark of a bid that is admitted, and of one that is over
 abbrev pub admitted : ℕ
 admitted = 1
 
 abbrev pub over : ℕ
 over = 0
 
--- "bid list over 4,096 words"
+-- rules 7.1 and 13.22: the most words of a bid list
 abbrev pub bidListWords : ℕ
 bidListWords = 4096
 
@@ -117,55 +118,55 @@ bidListWords = 4096
 abbrev pub bidLimit : ℕ
 bidLimit = 682
 
--- "2,728 for bids, each 1 admitted or 0 over, bid value, MW, charge"
+-- rule 7.17: the words of a bid in the list for bids, and the words of that list
 abbrev pub bidAnswerSize : ℕ
 bidAnswerSize = 4
 
 abbrev pub bidAnswerWords : ℕ
 bidAnswerWords = bidLimit * bidAnswerSize
 
--- "48 for paths, each offered and sold in this round, price or 0"
+-- rule 7.18: the words of a path in the list for paths, and the words of that list
 abbrev pub pathAnswerSize : ℕ
 pathAnswerSize = 3
 
 abbrev pub pathAnswerWords : ℕ
 pathAnswerWords = pathLimit * pathAnswerSize
 
--- "The ordering scratch lent is 2,048 words."
+-- rule 7.19: the words of the scratch
 abbrev pub scratchWords : ℕ
 scratchWords = 2048
 
 -- ---- Settlement
 
--- "16 zone prices of −10^6 to 10^6 cents"
+-- rule 10.2: how many zone prices an hour has, and how far each may be from 0 in a priced one
 abbrev pub zones : ℕ
 zones = 16
 
 abbrev pub zonePriceLimit : ℕ
 zonePriceLimit = 10 ^ 6
 
--- "D outside 1 to 10^11": the most that is disbursed or recovered at once, and so the largest pool
+-- rules 11.1 and 13.32: the most that is shared at once, and so the largest pool
 abbrev pub poolLimit : ℕ
 poolLimit = 10 ^ 11
 
--- "Disburse leaves at least 2×10^9 in the account"
+-- rule 11.8: the least that a disbursement leaves in the account
 abbrev pub reserve : ℕ
 reserve = 2 * 10 ^ 9
 
--- "a column total over 10^8"
+-- rule 13.33: the most that the numbers of a column add up to
 abbrev pub columnLimit : ℕ
 columnLimit = 10 ^ 8
 
 -- ---- Sheets
 
--- "at most 16,384 bytes"
+-- rule 14.1: the bytes of the longest sheet
 abbrev pub sheetBytes : ℕ
 sheetBytes = 16384
 
--- "The output buffer is 65,536 bytes"
+-- rules 13.1 and 14.11: the bytes of the output buffer of a sheet
 abbrev pub awardSheetBytes : ℕ
 awardSheetBytes = 65536
 
--- "A number has at most 13 digits"
+-- rule 14.2: the most digits of the longest numbers of a sheet, which are cash and letter
 abbrev pub digitLimit : ℕ
 digitLimit = 13

@@ -1,4 +1,4 @@
--- Document 01, "A sound book has ..": each part of that sentence as a test, in its order, and the whole.
+-- What is sound, part by part, and a sound book: rules 4.1 to 4.7; and what a stage says: rule 2.6.
 use mathlib.Core.Bool.{Bool, true, false, _&&_, _||_}
 use mathlib.Core.List.{List}
 use Prim.Native.Nat.{ℕ, _≤_}
@@ -18,35 +18,35 @@ use Rattle.market.specs.declared.book.Period.{Period}
 use Rattle.market.specs.declared.book.Stage.{Stage}
 use Rattle.market.specs.declared.book.Stage.the-variants.{Idle, Open}
 
--- "the ranges above": "1 to 16 paths"
+-- rule 4.1: a number of paths that a book may have
 abbrev pub soundPathCount : ℕ → Bool
 soundPathCount n = leb 1 n && leb n pathLimit
 
--- "kind S at round 1 or L at round 1 or 2"
+-- rule 4.3: a next round that an auction of this kind can have
 abbrev pub soundRound : Kind → ℕ → Bool
 soundRound Short round = eqb round 1
 soundRound Long round = eqb round 1 || eqb round 2
 
--- "a period that open takes": open refuses a "first day after last, or a day over 65,535"
+-- rules 1.2 and 4.2: a right period; it has a last day that is not before its first, and both are day numbers
 abbrev pub soundPeriod : Period → Bool
 soundPeriod p = leb (p .first .0) (p .last .0) && leb (p .last .0) dayLimit
 
--- "if open kind S at round 1 or L at round 1 or 2 and a period that open takes"
+-- rule 4.3: a sound stage; with no auction open there is nothing to test
 abbrev pub soundStage : Stage → Bool
 soundStage Idle = true
 soundStage (Open kind round period) = soundRound kind round && soundPeriod period
 
--- "The stage is idle, or open"
+-- rule 2.6: no auction is open
 abbrev pub isIdle : Stage → Bool
 isIdle Idle = true
 isIdle (Open kind round period) = false
 
--- the open auction's next round, and 0 where the stage is idle
+-- rule 2.6: the number of the open auction's next round; 0 where none is open
 abbrev pub roundOf : Stage → ℕ
 roundOf Idle = 0
 roundOf (Open kind round period) = round
 
--- the open auction's kind and period; with no auction open, S and day 0
+-- rule 2.6: the kind and the period of the open auction; S and day 0 where none is open
 abbrev pub kindOf : Stage → Kind
 kindOf Idle = Short
 kindOf (Open kind round period) = kind
@@ -55,8 +55,7 @@ abbrev pub periodOf : Stage → Period
 periodOf Idle = record { first = dayNumber 0; last = dayNumber 0 }
 periodOf (Open kind round period) = period
 
--- a path, where `round` is the next round: "a zone 0 to 15", "with sold .. 0 at round 1", "sold at most offer at
--- most 9,999"
+-- rule 4.4: a sound path, where `round` is the number of the next round
 abbrev pub soundPath : ℕ → Path → Bool
 soundPath round p =
     leb (p .zone) zoneLimit
@@ -64,8 +63,7 @@ soundPath round p =
     && leb (p .sold .0) (p .offer .0)
     && leb (p .offer .0) quantityLimit
 
--- a bidder: "every value 0 at round 1 and owed at most 2×10^13 at round 2, cash + applied and letter at most 10^12, hold at
--- most letter, owed at most 10^14, step at most 3"
+-- rules 4.5 and 4.6: a sound bidder, where `round` is the number of the next round
 abbrev pub soundBidder : ℕ → Bidder → Bool
 soundBidder round x =
     (eqb round 1 implies noValue x)
@@ -76,15 +74,15 @@ soundBidder round x =
     && leb (x .owed .0) owedLimit
     && leb (x .step) stepLimit
 
--- "each 0 to 9,999 MW": a quantity of MW
+-- rules 6.2 and 13.25: a quantity of MW that open takes
 abbrev pub soundQuantity : ℕ → Bool
 soundQuantity n = leb n quantityLimit
 
--- "the account within ±10^15"
+-- rules 4.7 and 13.31: an account within its limits
 abbrev pub soundAccount : ℤ → Bool
 soundAccount z = leZ (negℤ (pos accountLimit)) z && leZ z (pos accountLimit)
 
--- a sound book; "a count to 1,024" is the register's
+-- rules 4.1 to 4.7: a sound book; the entries that it counts are the register's, rule 4.8
 unfoldable pub soundBook : Book → Bool
 soundBook b =
     soundPathCount (b .«path_count»)
@@ -94,7 +92,7 @@ soundBook b =
     && every (soundBidder (roundOf (b .stage))) (b .bidders)
     && soundAccount (b .account .0)
 
--- what holds of a sound bidder at any round, as functions that work on one ask for it
+-- rule 4.5: what holds of a sound bidder at any round, as functions that work on one ask for it
 pub record BidderBounds (x : Bidder) : Type 0 where
   pub held : heldOf x ≤ moneyLimit
   pub letter : x .letter .0 ≤ moneyLimit
@@ -102,6 +100,6 @@ pub record BidderBounds (x : Bidder) : Type 0 where
   pub owed : x .owed .0 ≤ owedLimit
   pub step : x .step ≤ stepLimit
 
--- the bidder with any number is within the bounds
+-- the bidder with any number is within these bounds
 abbrev pub AllWithin : List Bidder → Type 0
 AllWithin bidders = (i : ℕ) → BidderBounds (getD bidders i noBidder)

@@ -4,7 +4,7 @@ use crate::units::Cents;
 ghost use mathlib.Core.Path.{_≡_};
 ghost use Rattle.market.specs.Answers.{answerNumber};
 
-// The refusals, by the paper's numbers.
+// The refusals, by their numbers in the rules.
 pub struct Refusal {}
 
 impl Refusal {
@@ -48,7 +48,7 @@ impl Refusal {
     pub const TOTAL: u32 = 32;
 
     pub const COLUMNS: u32 = 33;
-    // Caused by whoever wrote a sheet.
+    // A sheet, or a line of a journal, that is not of its form.
     pub const FORM: u32 = 40;
 }
 
@@ -61,7 +61,7 @@ pub enum Answer {
 }
 
 impl Answer {
-    // The paper's number for a refusal; 0 where the call is answered.
+    // The number of a refusal; 0 where the call is answered.
     pub fn number(self) -> u32
         ensures { λ r. ⌜ r ≡ answerNumber self ⌝ }
     {

@@ -7,7 +7,7 @@ use crate::units::Megawatts;
 ghost use mathlib.Core.Path.{_≡_};
 ghost use Rattle.market.specs.Sound.{soundPathCount};
 
-// Which way a path leads: X out of Ontario, M into it.
+// The direction of a path: on X power leaves Ontario, on M it comes in.
 pub enum Direction {
     Export,
     Import,
@@ -19,7 +19,7 @@ pub struct Route {
     pub zone: u32,
 }
 
-// A path: its route, its offer in the open auction, and what that auction has sold of it.
+// A path (rule 2.2): its route, the MW that the auction offers, and the MW of them that rounds have sold.
 pub struct Path {
     pub direction: Direction,
     pub zone: u32,
@@ -39,7 +39,7 @@ pub struct Period {
     pub last: Day,
 }
 
-// The stage: idle, or open with the next round and the period.
+// The stage (rule 2.6): no auction is open, or one is, of a kind, with the number of its next round and the period of its rights.
 pub enum Stage {
     Idle,
     Open {

@@ -1,4 +1,4 @@
-// The engine's release and rule edition, every limit of the paper, and its fresh book and stage.
+// The engine's release and the edition of its rules, every limit (rule 1.6), and its fresh book and stage.
 use crate::answer::Answer;
 use crate::answer::Outcome;
 use crate::answer::Refusal;

@@ -1,16 +1,16 @@
-// Cents, megawatts, day numbers and zone prices, each a kind of its own, so that one is never taken for another.
+// The five kinds of number (rule 1.1), so that code which takes one for another is no program.
 
-// An amount of whole cents, never below 0.
+// An amount of money in cents, without fractions and never below 0.
 pub struct Cents(pub u64);
 
-// A signed amount of whole cents: the clearing account's.
+// The balance of the clearing account in cents, which has a sign.
 pub struct Balance(pub i64);
 
-// The price at a zone in an hour, in whole cents per MW; it may be below 0.
+// The price of a zone in an hour, in cents per MW; it may be below 0.
 pub struct ZonePrice(pub i64);
 
-// A quantity of whole megawatts.
+// A quantity of MW, without fractions.
 pub struct Megawatts(pub u32);
 
-// A day number; day 0 is 2000-01-01.
+// A day number; 0 stands for 2000-01-01.
 pub struct Day(pub u32);

@@ -1,4 +1,4 @@
--- Document 01, "Disburse, recover": the two pools of a total, each participant's share in them, and which columns are refused.
+-- The two pools of a total, the share of each participant in them, and the refusals of columns: rules 11.3, 11.4, 11.7 and 13.33.
 use mathlib.Core.Bool.{Bool, not, _&&_}
 use mathlib.Core.List.{List, [], _∷_}
 use Prim.Native.Nat.{ℕ, _+_, _-_, _*_, _/_}
@@ -10,18 +10,18 @@ use Rattle.pool_columns.specs.declared.Columns.{Columns}
 
 -- ---- The shares
 
--- "all charges"
+-- rule 11.3: P + E, the charges of both sorts
 abbrev pub allCharges : Columns → ℕ
 allCharges cols = total (cols .provincial) + total (cols .export)
 
--- "Provincial pool = floor(D × all provincial / all charges); export pool = the rest."
+-- rule 11.3: the provincial pool of D, and the export pool
 abbrev pub provincialPool : ℕ → Columns → ℕ
 provincialPool d cols = d * total (cols .provincial) / allCharges cols
 
 abbrev pub exportPool : ℕ → Columns → ℕ
 exportPool d cols = d - provincialPool d cols
 
--- "A pool is shared by its energy column among those with a charge of its sort above 0": the weights of each pool
+-- rule 11.4: the weights of each pool, by its own charges and its own energy
 abbrev pub provincialWeights : Columns → List ℕ
 provincialWeights cols = eligible (cols .provincial) (cols .meters)
 
@@ -34,14 +34,14 @@ together (x ∷ xs) (y ∷ ys) = (x + y) ∷ together xs ys
 together [] ys = []
 together (x ∷ xs) [] = []
 
--- a participant's share: its cents of both pools
+-- rule 11.7: a participant's share is its cents of both pools
 unfoldable pub sharesOf : ℕ → Columns → List ℕ
 sharesOf d cols =
     together (poolShares (provincialPool d cols) (provincialWeights cols)) (poolShares (exportPool d cols) (exportWeights cols))
 
 -- ---- Refusals
 
--- "a column total over 10^8": energy totals count everybody
+-- rule 13.33: no column adds up to more than the limit, where energy counts with or without a charge
 abbrev pub columnsWithin : Columns → Bool
 columnsWithin cols =
     leb (total (cols .provincial)) columnLimit
@@ -49,11 +49,11 @@ columnsWithin cols =
     && leb (total (cols .meters)) columnLimit
     && leb (total (cols .interties)) columnLimit
 
--- "a pool above 0 with no eligible energy"
+-- rule 13.33: a pool is not 0, and all its weights are
 abbrev pub unshared : ℕ → List ℕ → Bool
 unshared pool weights = ltb 0 pool && eqb (total weights) 0
 
--- 33 "a column total over 10^8, all charges 0, or a pool above 0 with no eligible energy"
+-- rule 13.33: a column adds up to too much, there are no charges, or one of the pools cannot be shared
 abbrev pub columnRefusals : ℕ → Columns → List Row
 columnRefusals d cols =
     (not (columnsWithin cols) gives 33)

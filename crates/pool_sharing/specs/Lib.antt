@@ -1,2 +1,2 @@
--- The rules by which a pool is shared.
+-- How a pool is shared: rules 11.4 to 11.6.
 pub mod Sharing

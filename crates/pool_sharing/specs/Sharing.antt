@@ -1,5 +1,4 @@
--- Document 01: "A pool is shared by its energy column among those with a charge of its sort above 0: whole cents dropped down,
--- then one cent each by largest remainder, lower number first."
+-- How a pool is shared by weights, to the cent: rules 11.4 to 11.6.
 use mathlib.Core.Bool.{cond}
 use mathlib.Core.List.{List, [], _∷_, map}
 use Prim.Native.Nat.{ℕ, zero, suc, _+_, _-_, _*_, _/_, _%_, max}
@@ -11,7 +10,7 @@ abbrev pub total : List ℕ → ℕ
 total [] = 0
 total (x ∷ xs) = x + total xs
 
--- "its energy column among those with a charge of its sort above 0": the weight is the energy, and 0 with no charge
+-- rule 11.4: a participant weighs its energy if it has a charge above 0 and else nothing; of one participant, and of all
 abbrev pub weightOf : ℕ → ℕ → ℕ
 weightOf charge energy = cond (ltb 0 charge) energy 0
 
@@ -20,7 +19,7 @@ eligible (c ∷ cs) (e ∷ es) = weightOf c e ∷ eligible cs es
 eligible [] es = []
 eligible (c ∷ cs) [] = []
 
--- "whole cents dropped down": the share of a weight in a whole, and what is dropped of it, in parts of a cent
+-- rule 11.5: the whole cents of a weight, and the remainder of that division; of one weight, and of all
 abbrev pub floorOf : ℕ → ℕ → ℕ → ℕ
 floorOf pool whole weight = pool * weight / whole
 
@@ -33,7 +32,7 @@ floors pool weights = map (floorOf pool (total weights)) weights
 abbrev pub remainders : ℕ → List ℕ → List ℕ
 remainders pool weights = map (remainderOf pool (total weights)) weights
 
--- the cents of the pool that are not yet given
+-- rule 11.6: how many cents are left over
 abbrev pub left : ℕ → List ℕ → ℕ
 left pool weights = pool - total (floors pool weights)
 
@@ -42,23 +41,23 @@ abbrev pub biggest : List ℕ → ℕ
 biggest [] = 0
 biggest (x ∷ xs) = max x (biggest xs)
 
--- "by largest remainder, lower number first": the index of the first element that no other is larger than
+-- rule 11.6: who is next: the participant with the largest remainder, and of equal ones that with the lower number
 abbrev pub largest : List ℕ → ℕ
 largest [] = 0
 largest (x ∷ xs) = cond (leb (biggest xs) x) 0 (suc (largest xs))
 
--- "one cent each": the shares with one cent more at a place, and the remainders with the one at that place spent
+-- rule 11.6: one cent more for a participant, and its remainder set to 0, so that it is not next again
 abbrev pub oneMore : List ℕ → ℕ → List ℕ
 oneMore shares place = set shares place (getD shares place 0 + 1)
 
 abbrev pub spent : List ℕ → ℕ → List ℕ
 spent rems place = set rems place 0
 
--- "then one cent each by largest remainder": for as many cents as are left
+-- rule 11.6: the cents left over go out one by one
 abbrev pub handOut : ℕ → List ℕ → List ℕ → List ℕ
 handOut zero rems shares = shares
 handOut (suc cents) rems shares = handOut cents (spent rems (largest rems)) (oneMore shares (largest rems))
 
--- the share of each participant in a pool
+-- rules 11.5 and 11.6: the cents of each participant in a pool
 unfoldable pub poolShares : ℕ → List ℕ → List ℕ
 poolShares pool weights = handOut (left pool weights) (remainders pool weights) (floors pool weights)

@@ -1,5 +1,5 @@
-// Sharing a pool by a column of weights: the total of a column, the weights of a pool, and what each weight gets of it, rounded down
-// to whole cents, then one cent each by largest remainder.
+// Sharing a pool by a column of weights: the total of a column, the weights of a pool, and what each weight gets of it: its whole cents,
+// and then the cents left over, one by one (rules 11.4 to 11.6).
 use market::engine::Engine;
 use market::units::Cents;
 ghost use mathlib.Core.Path.{_≡_};
@@ -117,7 +117,7 @@ fn largest_of(rems: [u64; Engine::BIDDERS]) -> usize
     best
 }
 
-// The shares after the cents left are handed out, one each by largest remainder.
+// The shares after the cents left over went out, the largest remainder first.
 fn hand_out(
     left: Cents,
     remainders: [u64; Engine::BIDDERS],

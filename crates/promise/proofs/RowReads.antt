@@ -14,7 +14,7 @@ use Rattle.round_charges.specs.Charges.{chargeAt, bidRow, bidRowsFrom, bidRows}
 use Rattle.market.specs.Books.{withFront}
 use Rattle.round_paths.proofs.PathRowLaws.{rows-length}
 use Rattle.round_paths.specs.PathRows.{pathRow, pathRows}
-use Rattle.call_round.specs.Answers.{markIn, valueIn, wonIn, chargeIn, offeredIn, soldIn, priceIn}
+use Rattle.call_round.specs.Answers.{valueIn, wonIn, chargeIn, offeredIn, soldIn, priceIn}
 
 -- ---- Bids
 
@@ -37,11 +37,6 @@ module _ (marks won prices : List ℕ) (bids : List Bid) (before : List ℕ) (k 
   word-at j inside =
       row-at marks won prices 0 bids (drop (length (bidRows marks won prices bids)) before) k j d below inside
       ∙ ap (λ (i : ℕ). getD (bidRow marks won prices i (getD bids k d)) j 0) (let e : 0 + k ≡ k = omega arith in e)
-
-  pub mark-read : markIn (withFront (bidRows marks won prices bids) before) k ≡ getD marks k 0
-  mark-read =
-      ap (λ (i : ℕ). getD (withFront (bidRows marks won prices bids) before) i 0) (let e : k * bidAnswerSize ≡ k * bidAnswerSize + 0 = omega arith in e)
-      ∙ word-at 0 (omega arith)
 
   pub value-read : valueIn (withFront (bidRows marks won prices bids) before) k ≡ bidValue (getD bids k d)
   value-read = word-at 1 (omega arith)

@@ -1,5 +1,4 @@
--- The refusals that every call that is lent the register has before its own: "1 a lent buffer shorter than stated; 2 a book or a
--- counted register entry that is not sound".
+-- The refusals that each call that is lent the register has before its own: rules 3.4, 13.1 and 13.2.
 use mathlib.Core.Path.{_≡_}
 use mathlib.Core.Bool.{Bool, true, not, _&&_}
 use mathlib.Core.List.{List, [], _∷_}
@@ -15,22 +14,23 @@ use Rattle.market.specs.declared.book.Entry.{Entry}
 use Rattle.register.specs.Entries.{soundEntry}
 use Rattle.register.specs.Words.{entriesOf}
 
--- each entry is sound for the book
+-- rule 4.8: each entry is sound for the book
 abbrev pub soundEntries : Book → List Entry → Bool
 soundEntries b es = every (soundEntry (b .«path_count»)) es
 
--- the entries that a book counts
+-- rule 3.2: the entries that a book counts
 abbrev pub countedEntries : Book → List ℕ → List Entry
 countedEntries b words = entriesOf words (b .entries)
 
--- 1, of the register
+-- rule 13.1: a register with too few words
 abbrev pub shortRegister : List ℕ → Row
 shortRegister words = ltb (length words) registerWords gives 1
 
--- 2, of a book and its entries
+-- rule 13.2: the book, or one of the counted entries, is not sound
 abbrev pub unsoundRegister : Book → List Entry → Row
 unsoundRegister b es = not (soundBook b && soundEntries b es) gives 2
 
+-- rule 3.4: a call that is lent the register tests its length, and then the book and every counted entry
 abbrev pub registerRefusals : Book → List ℕ → List Row
 registerRefusals b words = shortRegister words ∷ unsoundRegister b (countedEntries b words) ∷ []
 

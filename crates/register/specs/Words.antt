@@ -1,5 +1,4 @@
--- Document 01, "The register, lent, is 6,144 32-bit words, up to 1,024 entries of six: bidder, path, MW, first day, last day,
--- state (1 pending, 2 issued). No call writes at or past the count it ends with."
+-- How the words of the register hold its entries, and which words are written: rules 3.1 to 3.3.
 use mathlib.Core.List.{List, [], _∷_, _++_}
 use Prim.Native.Nat.{ℕ, zero, suc, _+_, _*_}
 use lib.ListN.{length, getD, take, drop}
@@ -7,7 +6,7 @@ use Rattle.market.specs.Books.{megawatts, dayNumber}
 use Rattle.market.specs.Limits.{entryWords}
 use Rattle.market.specs.declared.book.Entry.{Entry}
 
--- the entry at a place
+-- rule 3.1: the entry with number `i`, in six words from place 6 × i on
 abbrev pub entryAt : List ℕ → ℕ → Entry
 entryAt words i =
     record {
@@ -22,12 +21,12 @@ entryAt words i =
       state = getD words (i * entryWords + 5) 0;
     }
 
--- the first `n` entries, where `n` is the count
+-- rule 3.2: the first `n` entries, where `n` is the number that the book has
 abbrev pub entriesOf : List ℕ → ℕ → List Entry
 entriesOf words zero = []
 entriesOf words (suc n) = entriesOf words n ++ (entryAt words n ∷ [])
 
--- the six words of an entry, and the words of a list of entries
+-- rule 3.1: the six words of an entry in their order, and the words of a list of entries
 abbrev pub encodedEntry : Entry → List ℕ
 encodedEntry e =
     e .bidder ∷ e .path ∷ e .quantity .0 ∷ e .period .first .0 ∷ e .period .last .0 ∷ e .state ∷ []
@@ -40,6 +39,6 @@ allWords (e ∷ es) = encodedEntry e ++ allWords es
 abbrev pub entryPut : List ℕ → ℕ → Entry → List ℕ
 entryPut words i e = take (i * entryWords) words ++ encodedEntry e ++ drop (i * entryWords + entryWords) words
 
--- the words after entries are written from the front: every word after the entries is as it was
+-- rule 3.3: the words after entries are written from the front: all words past the entries keep what they held
 abbrev pub entriesWritten : List ℕ → List Entry → List ℕ
 entriesWritten words es = allWords es ++ drop (length es * entryWords) words

@@ -1,5 +1,5 @@
-// The register's counted entries: those of a bidder issued, some removed, and the megawatts outstanding on a path, which are those
-// of its entries whose period shares a day with a given one.
+// The register's counted entries: those of a bidder issued, some removed, and the megawatts outstanding on each path (rule 6.3), which
+// are those of its entries that overlap a given period.
 use market::book::Entry;
 use market::book::Period;
 use market::engine::Engine;
@@ -8,12 +8,12 @@ use register::Removal;
 ghost use mathlib.Core.Path.{_≡_};
 ghost use mathlib.Core.Bool.{cond, true};
 ghost use mathlib.Core.List.{map};
-ghost use Prim.Native.Nat.{_+_, _*_, _≤_, _<_};
-ghost use lib.ListN.{length};
-ghost use Rattle.market.specs.Limits.{entryWords, entryLimit};
-ghost use Rattle.register.specs.Entries.{issuedTo, goes, without, soundEntry, countedOf, outstanding};
+ghost use Prim.Native.Nat.{ℕ, _+_, _*_, _≤_};
+ghost use lib.ListN.{length, getD};
+ghost use Rattle.market.specs.Limits.{entryWords, entryLimit, pathLimit};
+ghost use Rattle.register.specs.Entries.{issuedTo, goes, without, soundEntry, sharesDay, outstanding};
 ghost use Rattle.register.specs.Words.{entryAt, entriesOf, entryPut, entriesWritten};
-ghost use Rattle.market.specs.Books.{every, megawatts};
+ghost use Rattle.market.specs.Books.{every, megawatts, inMegawatts};
 
 fn issued_to(bidder: u32, entry: Entry) -> Entry
     ensures { λ r. ⌜ r ≡ issuedTo bidder entry ⌝ }
@@ -64,7 +64,7 @@ fn keep(words: &mut [u32], i: usize, kept: usize, what: Removal) -> usize
     kept + 1
 }
 
-// Removes the entries that `what` names; the others keep their order. Returns how many stay.
+// Removes the entries that `what` names; the others move up in their order. Returns how many stay.
 pub fn remove(words: &mut [u32], count: usize, what: Removal) -> usize
     requires { ⌜ count * entryWords ≤ length (now words) ⌝ }
     ensures kept { λ r. ⌜ r ≡ length (without what (entriesOf (now (words .entry)) count)) ⌝ }
@@ -77,38 +77,42 @@ pub fn remove(words: &mut [u32], count: usize, what: Removal) -> usize
     kept
 }
 
-fn counted(path: u32, period: Period, entry: Entry) -> u32
-    ensures { λ r. ⌜ r ≡ countedOf path period entry ⌝ }
+// The megawatts of an entry if it overlaps `period`, else 0.
+fn counted(period: Period, entry: Entry) -> Megawatts
+    ensures { λ r. ⌜ r ≡ megawatts (cond (sharesDay (entry .period) period) (entry .quantity .0) 0) ⌝ }
 {
-    let quantity = entry.quantity;
     let days = entry.period;
     let first = days.first;
     let last = days.last;
     let new_first = period.first;
     let new_last = period.last;
-    if (entry.path == path) & ((first.0 <= new_last.0) & (new_first.0 <= last.0)) {
-        return quantity.0;
+    if (first.0 <= new_last.0) & (new_first.0 <= last.0) {
+        return entry.quantity;
     }
-    0
+    Megawatts(0)
 }
 
-// The megawatts of a path's counted entries whose period shares a day with `period`.
-pub fn outstanding_on(
+// The megawatts outstanding on each path: those of its counted entries that overlap `period`. One pass over the entries adds each to
+// its path.
+pub fn outstanding(
     words: &[u32],
     count: usize,
     paths: usize,
-    path: u32,
     period: Period,
-) -> Megawatts
+) -> [Megawatts; Engine::PATHS]
     requires { ⌜ count * entryWords ≤ length (now words) ⌝ }
     requires { ⌜ count ≤ entryLimit ⌝ }
+    requires { ⌜ paths ≤ pathLimit ⌝ }
     requires { ⌜ every (soundEntry paths) (entriesOf (now words) count) ≡ true ⌝ }
-    ensures { λ r. ⌜ r ≡ megawatts (outstanding path period (entriesOf (now (words .entry)) count)) ⌝ }
+    ensures { λ r. ⌜ ((path : ℕ) → getD (inMegawatts r) path 0 ≡ outstanding path period (entriesOf (now (words .entry)) count)) ⌝ }
 {
-    let mut sum: u32 = 0;
+    let mut sums = [Megawatts(0); Engine::PATHS];
     for i in 0..count {
-        let more = counted(path, period, register::read(words, i));
-        sum += more;
+        let entry = register::read(words, i);
+        let more = counted(period, entry);
+        let path = entry.path as usize;
+        let sum = sums[path];
+        sums[path] = Megawatts(sum.0 + more.0);
     }
-    Megawatts(sum)
+    sums
 }

@@ -1,5 +1,4 @@
--- Document 01, "Bidding limit = multiplier × (cash + letter − hold) at the round's start", and "In list order a bid is admitted
--- whole when its bid value .. plus the bidder's already admitted values is at most the limit; otherwise it is marked over."
+-- Bidding limits, and which bids are admitted: rules 7.6 and 7.7.
 use mathlib.Core.Bool.{Bool, cond}
 use mathlib.Core.List.{List, [], _∷_, map}
 use Prim.Native.Nat.{ℕ, _+_, _*_, _-_}
@@ -11,15 +10,15 @@ use Rattle.market.specs.declared.book.Bidder.{Bidder}
 use Rattle.market.specs.declared.book.Book.{Book}
 use Rattle.round_bids.specs.Bids.{Bid, bidValue}
 
--- "steps 0 to 3 give 10, 8, 5, 1"
+-- rule 7.6: the multiplier of a step
 abbrev pub multiplier : ℕ → ℕ
 multiplier step = getD multipliers step 0
 
--- "multiplier × (cash + letter − hold)"; a sound book's hold is at most the letter
+-- rule 7.6: a bidder's limit; the hold of a sound book is at most the letter
 abbrev pub biddingLimit : Bidder → ℕ
 biddingLimit x = multiplier (x .step) * (x .cash .0 + x .letter .0 - x .hold .0)
 
--- "at the round's start", by bidder
+-- rule 7.6: the limits of all bidders, from their numbers before the round
 abbrev pub biddingLimits : Book → List ℕ
 biddingLimits b = map biddingLimit (b .bidders)
 
@@ -27,24 +26,23 @@ biddingLimits b = map biddingLimit (b .bidders)
 abbrev pub withinTop : ℕ → Bool
 withinTop limit = leb limit biddingLimitTop
 
--- "its bid value .. plus the bidder's already admitted values is at most the limit"; `used` has the values admitted so far, by
--- bidder
+-- rule 7.7: the bid's value does not pass the limit together with what the bidder has admitted; `used` has the values admitted so far, by bidder
 abbrev pub admits : List ℕ → List ℕ → Bid → Bool
 admits limits used b = leb (getD used (b .bidder) 0 + bidValue b) (getD limits (b .bidder) 0)
 
--- "1 admitted or 0 over"
+-- rules 7.7 and 7.17: the mark of a bid
 abbrev pub markOf : List ℕ → List ℕ → Bid → ℕ
 markOf limits used b = cond (admits limits used b) admitted over
 
--- the values admitted after a bid: "admitted whole", and one that is over leaves them
+-- rule 7.7: the values admitted after a bid: an admitted one uses its whole bid value, and one that is over uses nothing
 abbrev pub usedAfter : List ℕ → List ℕ → Bid → List ℕ
 usedAfter limits used b = cond (admits limits used b) (credit used (b .bidder) (bidValue b)) used
 
--- "In list order"
+-- rule 7.7: bids are taken up from the front of the list
 abbrev pub marksFrom : List ℕ → List ℕ → List Bid → List ℕ
 marksFrom limits used [] = []
 marksFrom limits used (b ∷ bs) = markOf limits used b ∷ marksFrom limits (usedAfter limits used b) bs
 
--- the marks of a round's bids
+-- rule 7.7: the marks of a round's bids
 abbrev pub marksOf : List ℕ → List Bid → List ℕ
 marksOf limits bids = marksFrom limits (replicate bidderLimit 0) bids

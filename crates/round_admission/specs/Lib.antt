@@ -1,1 +1,2 @@
+-- Bidding limits, and which bids are admitted: rules 7.6 and 7.7.
 pub mod Admission

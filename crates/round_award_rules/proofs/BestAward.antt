@@ -1,4 +1,4 @@
--- The awards of a round, against document 01: for bids that a round takes, any marks of the bids, and any offer of each path.
+-- The awards of a round, against rules 7.9 to 7.11 and rules 12.5 to 12.8: for bids that a round takes, any marks of the bids, and any offer of each path.
 use mathlib.Core.Path.{_≡_, sym, _∙_, subst}
 use mathlib.Core.Bool.{true, false, cond}
 use mathlib.Core.List.{List, []}
@@ -86,17 +86,16 @@ module _ (paths : ℕ) (offered : List ℕ) (bids : List Bid) (marks : List ℕ)
 
   -- ---- The award
 
-  -- "A rival award gives each lamination (pair) of an admitted bid 0 up to its own MW, no path more in all than the round offers"
-  -- No rival award has a higher total bid value than the round's.
+  -- rule 12.7: no rival award has a higher total bid value than the round's
   pub best-award : (gives : Rival) → Legal offered (claimsOf bids marks) gives → rivalValue gives (claimsOf bids marks) ≤ totalValue (λ k. wonBy k (awardsOf offered bids marks)) bids
   best-award gives legal = omega (arith, best-walk gives legal, value-total)
 
-  -- "no path more in all than the round offers"
+  -- rule 7.9: no more is sold of a path than the round offers of it
   pub sold-within-offer : (path : ℕ) → soldOn path (awardsOf offered bids marks) ≤ getD offered path 0
   unfolding awardsOf
   sold-within-offer path = sold-within path offered (inOrder (claimsOf bids marks))
 
-  -- "0 up to its own MW"
+  -- rule 7.9: no lamination gets more than its MW
   pub taken-within-own : EachAward (λ a. a .taken ≤ a .claim .quantity) (awardsOf offered bids marks)
   unfolding awardsOf
   taken-within-own = taken-within offered (inOrder (claimsOf bids marks))
@@ -116,8 +115,7 @@ module _ (paths : ℕ) (offered : List ℕ) (bids : List Bid) (marks : List ℕ)
       given-from won marks 0 0 bids
       (bids-map (Own (claimsOf bids marks) marks) (λ k b. eqb (getD marks k 0) admitted ≡ false → won k ≡ 0) 0 bids (λ k b from mine over. none-of k b mine over) own)
 
-  -- "the engine's fills a bid's laminations in order with its answered MW": filled in this way, the round's award is itself a
-  -- rival award
+  -- rule 12.6: the round's award, with each pair filled before the next, is itself a rival award
   pub award-legal : Legal offered (claimsOf bids marks) (filledAward (λ k. wonBy k (awardsOf offered bids marks)) bids)
   award-legal =
       record {
@@ -125,24 +123,23 @@ module _ (paths : ℕ) (offered : List ℕ) (bids : List Bid) (marks : List ℕ)
         shared = λ path. omega (arith, given .shared path, sold-is-won path, sold-within-offer path);
       }
 
-  -- "Bid value, in total or for what a bid won, sums price × MW given": the value of that award is the round's
-  -- total bid value, so no rival award has a higher value than this one, which is itself a rival award
+  -- rules 12.5 and 12.6: the value of that award is the round's total bid value, so no rival award has a higher value than this one, which is itself
+  -- a rival award
   pub award-value : rivalValue (filledAward (λ k. wonBy k (awardsOf offered bids marks)) bids) (claimsOf bids marks) ≡ totalValue (λ k. wonBy k (awardsOf offered bids marks)) bids
   award-value = given .value
 
   -- ---- Each bid
 
   module _ (k : ℕ) (d : Bid) (below : k < length bids) where
-    -- "fills a bid's laminations in order with its answered MW": the value of what a bid's laminations took is that of
-    -- filling them in order with the MW that the bid won
+    -- rule 12.6: the value of what a bid's laminations took is that of giving them the MW that the bid won, each filled before the next
     pub fills-in-order : wonValue k (awardsOf offered bids marks) ≡ filledValue (wonBy k (awardsOf offered bids marks)) (getD bids k d .laminations)
     fills-in-order = value-of k (getD bids k d) (own-at k d below)
 
-    -- "admitted laminations take": a bid that is marked over wins nothing
+    -- rule 7.7: a bid that is over wins nothing
     pub over-wins-none : eqb (getD marks k 0) admitted ≡ false → wonBy k (awardsOf offered bids marks) ≡ 0
     over-wins-none over = none-of k (getD bids k d) (own-at k d below) over
 
-    -- "Charge = clearing price × MW won": no bid is charged more than its bid value for what it won
+    -- rule 12.8: no bid is charged more than its bid value for what it won
     pub charge-within : chargeOf k (getD bids k d) (awardsOf offered bids marks) ≤ filledValue (wonBy k (awardsOf offered bids marks)) (getD bids k d .laminations)
     charge-within =
         omega (
@@ -153,16 +150,16 @@ module _ (paths : ℕ) (offered : List ℕ) (bids : List Bid) (marks : List ℕ)
 
   -- ---- Each path
 
-  -- "The clearing price is the lowest price that took any MW"
+  -- rule 7.10: no lamination that got any MW of a path is cheaper than its clearing price
   pub price-is-lowest :
       (path : ℕ)
       → EachAward (λ a. Took path a → (0 < priceOn path (awardsOf offered bids marks)) × (priceOn path (awardsOf offered bids marks) ≤ a .claim .price)) (awardsOf offered bids marks)
   price-is-lowest path = price-lowest path (awardsOf offered bids marks) some-price
 
-  -- "with no award there is none"
+  -- rule 7.10: a path that sold nothing has no clearing price
   pub no-award-no-price : (path : ℕ) → soldOn path (awardsOf offered bids marks) ≡ 0 → priceOn path (awardsOf offered bids marks) ≡ 0
   no-award-no-price path none = none-sold path (awardsOf offered bids marks) none
 
-  -- and with an award there is one
+  -- and one that sold something has one
   pub award-has-price : (path : ℕ) → 0 < soldOn path (awardsOf offered bids marks) → 0 < priceOn path (awardsOf offered bids marks)
   award-has-price path sold = some-sold path (awardsOf offered bids marks) some-price sold

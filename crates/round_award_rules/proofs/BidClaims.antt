@@ -55,7 +55,7 @@ each-of P bid (l ∷ ls) h = go (eqb (l .bid) bid) refl h (λ k. each-of P bid l
 abbrev pub Above : Claim → Claim → Type 0
 Above l m = m .bid ≡ l .bid → m .price < l .price
 
--- "prices strictly falling", within each bid
+-- rule 7.2: within each bid a price is below the one before it
 abbrev pub Strict : List Claim → Type 0
 Strict [] = Unit {0}
 Strict (l ∷ ls) = Each (Above l) ls × Strict ls

@@ -1,4 +1,4 @@
--- Laws about the MW and the bid value that a bid won: its laminations fill in order.
+-- Laws about the MW and the bid value that a bid won: each of its laminations is filled before the next.
 use mathlib.Core.Path.{_≡_, refl, _∙_, ap, ap₂}
 use mathlib.Core.Bool.{Bool, true, false, cond}
 use mathlib.Core.List.{List, [], _∷_}

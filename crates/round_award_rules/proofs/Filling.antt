@@ -1,4 +1,4 @@
--- The award that fills each bid's laminations in order with the MW that it won, as a rival award: the MW of each pair.
+-- The engine's award as a rival award, rule 12.6: the MW of each pair.
 use mathlib.Core.Path.{_≡_, refl, sym, _∙_, ap, ap₂}
 use mathlib.Core.Bool.{Bool, true, false, cond}
 use mathlib.Core.List.{List, [], _∷_, _++_}

@@ -47,7 +47,7 @@ Took path a = (a .claim .path ≡ path) × (0 < a .taken)
 abbrev tookPrice : ℕ → Award → ℕ
 tookPrice path a = cond (eqb (a .claim .path) path && ltb 0 (a .taken)) (a .claim .price) 0
 
--- "the lowest price that took any MW": no claim that took any has a lower price
+-- rule 7.10: no claim that took any MW of the path has a lower price
 pub price-lowest :
     (path : ℕ) (awards : List Award) → EachAward (λ a. 1 ≤ a .claim .price) awards
     → EachAward (λ a. Took path a → (0 < priceOn path awards) × (priceOn path awards ≤ a .claim .price)) awards
@@ -70,7 +70,7 @@ price-lowest path (a ∷ awards) h = (
         let low = lower-right (tookPrice path a) (priceOn path awards) (k .0) in
         (low .0, omega (arith, low .1, k .1))
 
--- "with no award there is none"
+-- rule 7.10: where nothing was sold there is no price
 pub none-sold : (path : ℕ) (awards : List Award) → soldOn path awards ≡ 0 → priceOn path awards ≡ 0
 none-sold path [] h = refl
 none-sold path (a ∷ awards) h =
@@ -81,7 +81,7 @@ none-sold path (a ∷ awards) h =
     go true false e k rest = rest
     go false t e k rest = rest
 
--- with an award there is one
+-- where something was sold there is one
 pub some-sold : (path : ℕ) (awards : List Award) → EachAward (λ a. 1 ≤ a .claim .price) awards → 0 < soldOn path awards → 0 < priceOn path awards
 some-sold path [] h sold = sold
 some-sold path (a ∷ awards) h sold =

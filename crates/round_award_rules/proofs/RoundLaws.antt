@@ -47,7 +47,7 @@ module _ (claims : List Claim) (marks : List ℕ) (bid : ℕ) (b : Bid) (own : O
         let most = won-within bid left (inOrder claims) in
         omega (arith, most, ap (sumOf (λ (l : Claim). l .quantity)) none)
 
-    -- "fills a bid's laminations in order": the bid value of what it won is that of its laminations, filled in order
+    -- rule 12.6: the bid value of what it won is that of its laminations, each filled before the next
     pub fills-bid : wonValue bid (walk left (inOrder claims)) ≡ filledValue (wonBy bid (walk left (inOrder claims))) (b .laminations)
     fills-bid =
         fills bid (b .path) left (inOrder claims) (each-order (λ l. l .bid ≡ bid → l .path ≡ b .path) claims own-path)

@@ -13,7 +13,7 @@ use Rattle.round_award_rules.specs.Rivals.{Each, Rival, givenOn, Legal, 
 use Rattle.round_award_rules.proofs.LeftLaws.{total, less, less-at, less-total, AtMost, total-most}
 use Rattle.round_award_rules.proofs.OrderLaws.{FallingFrom}
 
--- the bid value of awards: "sums price × MW given"
+-- the bid value of awards, which is the sum of price × MW
 abbrev pub valueOf : List Award → ℕ
 valueOf awards = sumOf (λ (a : Award). a .claim .price * a .taken) awards
 

@@ -25,11 +25,11 @@ sold-and-left path left (l ∷ ls) =
       less-at left (l .path) (takenOf left l) path (min-le-right (l .quantity) (getD left (l .path) 0)),
     )
 
--- "what is left": no path sells more than it has
+-- no path sells more than it has
 pub sold-within : (path : ℕ) (left : List ℕ) (claims : List Claim) → soldOn path (walk left claims) ≤ getD left path 0
 sold-within path left claims = omega (arith, sold-and-left path left claims)
 
--- "min(MW, ..)": no claim takes more than its MW
+-- no claim takes more than its MW
 pub taken-within : (left : List ℕ) (claims : List Claim) → EachAward (λ a. a .taken ≤ a .claim .quantity) (walk left claims)
 taken-within left [] = tt
 taken-within left (l ∷ ls) = (min-le-left (l .quantity) (getD left (l .path) 0), taken-within (leftAfter left l) ls)

@@ -1,5 +1,4 @@
--- Document 01, what a round leaves for bidders: "Then for each of the 32 bidders: its charges are added to owed; min(cash, owed)
--- moves from cash to applied and leaves owed; hold = min(letter, floor(owed/10))".
+-- What a round leaves for bidders: rules 7.13 and 7.14.
 use mathlib.Core.List.{List}
 use Prim.Native.Nat.{ℕ, zero, suc, _+_, _-_, _/_, min}
 use lib.ListN.{getD, set}
@@ -7,14 +6,14 @@ use Rattle.market.specs.Books.{cents, noBidder}
 use Rattle.market.specs.Limits.{bidderLimit}
 use Rattle.market.specs.declared.book.Bidder.{Bidder}
 
--- "its charges are added to owed", and what "min(cash, owed) moves"
+-- rule 7.13: what is due, and what is moved of it
 abbrev pub owedWith : Bidder → ℕ → ℕ
 owedWith x charges = x .owed .0 + charges
 
 abbrev pub movedOf : Bidder → ℕ → ℕ
 movedOf x charges = min (x .cash .0) (owedWith x charges)
 
--- "moves from cash to applied and leaves owed; hold = min(letter, floor(owed/10))", from what is then owed
+-- rules 7.13 and 7.14: a bidder after it is billed, with a hold by what it then owes
 abbrev pub billed : Bidder → ℕ → Bidder
 billed x charges =
     record {
@@ -26,7 +25,7 @@ billed x charges =
       step = x .step;
     }
 
--- "for each of the 32 bidders": the first `n` billed, each with its charges
+-- rule 7.13: the first `n` bidders billed, whether or not they bid, and then all 32
 abbrev pub billedTo : List Bidder → List ℕ → ℕ → List Bidder
 billedTo bidders charges zero = bidders
 billedTo bidders charges (suc n) =

@@ -1,4 +1,4 @@
--- Document 01, 14 "a bid with a bad field or cut short", 15 "second bid for one path", 16 "stamp falls".
+-- Which bids a round takes, and the refusals of the others: rules 7.2 to 7.4, rules 13.14 to 13.16 and rule 13.52.
 use mathlib.Core.Path.{_≡_}
 use mathlib.Core.Bool.{Bool, true, false, cond, not, _&&_, _||_}
 use mathlib.Core.List.{List, [], _∷_, _++_}
@@ -11,12 +11,12 @@ use Rattle.round_bids.specs.Bids.{Bid, headerOf, bidAt, bidEnd}
 use Rattle.round_bids.specs.declared.Header.{Header}
 use Rattle.round_bids.specs.declared.Lamination.{Lamination}
 
--- "price 1 to 10^8, MW 1 to 9,999"
+-- rule 7.2: the price and the MW of a pair are in their ranges
 abbrev pub soundLamination : Lamination → Bool
 soundLamination l =
     leb 1 (l .price .0) && leb (l .price .0) priceLimit && leb 1 (l .quantity .0) && leb (l .quantity .0) quantityLimit
 
--- "prices strictly falling": each price is below the one before it
+-- rule 7.2: so is every pair, and each price is below the one before it
 abbrev pub soundLaminations : ℕ → List Lamination → Bool
 soundLaminations before [] = true
 soundLaminations before (l ∷ ls) =
@@ -26,31 +26,30 @@ soundLaminations before (l ∷ ls) =
 abbrev pub abovePrices : ℕ
 abovePrices = priceLimit + 1
 
--- the fields before the pairs, where the book has `paths` paths: bidder "0 to 31", a path of the book, "n is 1 to 20"
+-- rule 7.2: bidder, path and n are in their ranges, where the book has `paths` paths; a stamp may be any word
 abbrev pub soundHeader : ℕ → Header → Bool
 soundHeader paths h =
     ltb (h .bidder) bidderLimit && ltb (h .path) paths && leb 1 (h .count) && leb (h .count) laminationLimit
 
--- a bid without a "bad field"
+-- rule 7.2: all fields of a bid are in their ranges
 abbrev pub soundBid : ℕ → Bid → Bool
 soundBid paths b = soundHeader paths (headerOf b) && soundLaminations abovePrices (b .laminations)
 
--- not "cut short": the list has all words of the bid at a place
+-- rule 7.1: the list does not end inside the bid at a place
 abbrev pub wholeAt : List ℕ → ℕ → Bool
 wholeAt words at = leb (bidEnd words at) (length words)
 
--- "One bid per bidder and path": whether one of these bids is for the pair
+-- rule 7.4: whether one of these bids has this bidder and this path
 abbrev pub hasBid : ℕ → ℕ → List Bid → Bool
 hasBid bidder path [] = false
 hasBid bidder path (b ∷ bs) = (eqb (b .bidder) bidder && eqb (b .path) path) || hasBid bidder path bs
 
--- "Stamps .. never fall along the list": the stamp of the latest of these bids (latest first); 0 before the first bid
+-- rule 7.3: the stamp of the latest of these bids (latest first); 0 before the first bid, which may have any
 abbrev pub stampOf : List Bid → ℕ
 stampOf [] = 0
 stampOf (b ∷ bs) = b .stamp
 
--- "14 (its bidder included) before 15 before 16": the refusals of the bid at a place; `earlier` has the bids before it, latest
--- first
+-- rules 13.14, 13.15, 13.16 and 13.52: the rows of the bid at a place, in their order; `earlier` has the bids before it, latest first
 abbrev pub bidRefusals : ℕ → List ℕ → ℕ → List Bid → List Row
 bidRefusals paths words at earlier =
     (not (wholeAt words at && soundBid paths (bidAt words at)) gives 14)
@@ -58,7 +57,7 @@ bidRefusals paths words at earlier =
     ∷ (ltb (bidAt words at .stamp) (stampOf earlier) gives 16)
     ∷ []
 
--- "the first bid at fault decides": the refusals of the bids from a place on, bid by bid, for no more bids than the first
+-- rule 13.52: the rows of the bids from a place on, bid after bid, so that the first one with a fault decides; for no more bids than the first
 -- argument
 abbrev pub refusalsFrom : ℕ → ℕ → List ℕ → ℕ → List Bid → List Row
 refusalsFrom zero paths words at earlier = []
@@ -66,7 +65,7 @@ refusalsFrom (suc more) paths words at earlier =
     cond (leb (length words) at) []
     (bidRefusals paths words at earlier ++ refusalsFrom more paths words (bidEnd words at) (bidAt words at ∷ earlier))
 
--- the refusals of a list of bids; it has no more bids than words
+-- rule 13.52: the rows of a list of bids; it has no more bids than words
 abbrev pub listRefusals : ℕ → List ℕ → List Row
 listRefusals paths words = refusalsFrom (length words) paths words 0 []
 

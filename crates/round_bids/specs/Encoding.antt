@@ -1,4 +1,4 @@
--- Document 01, "Bids are a list of 32-bit words ..": the words of a list of bids, and which lists of bids a round takes.
+-- The words of a list of bids, rule 7.1, and which lists of bids a round takes, rules 7.2 to 7.4.
 use mathlib.Core.Bool.{Bool, true, not, _&&_}
 use mathlib.Core.List.{List, [], _∷_, _++_}
 use Prim.Native.Nat.{ℕ}
@@ -8,12 +8,12 @@ use Rattle.round_bids.specs.Bids.{Bid}
 use Rattle.round_bids.specs.BidRefusals.{soundBid, hasBid, stampOf}
 use Rattle.round_bids.specs.declared.Lamination.{Lamination}
 
--- "n pairs of price and MW"
+-- rule 7.1: the words of pairs
 abbrev pub pairsEncoded : List Lamination → List ℕ
 pairsEncoded [] = []
 pairsEncoded (l ∷ ls) = l .price .0 ∷ l .quantity .0 ∷ pairsEncoded ls
 
--- "bidder, path, stamp, n, then n pairs"
+-- rule 7.1: the words of a bid, and of a list of bids
 abbrev pub bidEncoded : Bid → List ℕ
 bidEncoded b =
     b .bidder ∷ b .path ∷ b .stamp ∷ length (b .laminations) ∷ pairsEncoded (b .laminations)
@@ -22,7 +22,7 @@ abbrev pub encoded : List Bid → List ℕ
 encoded [] = []
 encoded (b ∷ bs) = bidEncoded b ++ encoded bs
 
--- whether a round takes bids after the `earlier` ones (latest first): each is sound, one per bidder and path, and no stamp falls
+-- rules 7.2 to 7.4: whether a round takes these bids after the `earlier` ones (latest first), and whether it takes them at all
 abbrev pub rightAfter : ℕ → List Bid → List Bid → Bool
 rightAfter paths earlier [] = true
 rightAfter paths earlier (b ∷ bs) =

@@ -12,7 +12,7 @@ ghost use Rattle.round_bids.specs.Bids.{headerAt, laminationAt, laminati
 ghost use Rattle.round_bids.specs.Bids.{laminationValue, laminationsValue, bidValue, laminationValueLimit, bidValueLimit};
 ghost use Rattle.round_bids.specs.BidRefusals.{soundLamination, soundLaminations, abovePrices};
 
-// A pair of a bid: a price per megawatt for the whole term, and the megawatts bid for at that price.
+// A pair of a bid: a price in cents per MW, which buys the MW for all days of the period, and the MW bid for at that price.
 pub struct Lamination {
     pub price: Cents,
     pub quantity: Megawatts,

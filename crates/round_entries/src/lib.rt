@@ -61,7 +61,7 @@ fn add_if_won(register: &mut [u32], count: usize, entry: Entry) -> usize
     count + 1
 }
 
-// Adds the entries of the bids that won, in bid order. Returns the new count.
+// Adds the entries of the winning bids in the order of the list. Returns the new count.
 pub fn add_entries(
     words: &[u32],
     won: [Megawatts; Engine::BIDS],

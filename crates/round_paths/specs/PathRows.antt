@@ -1,9 +1,9 @@
--- Document 01, a round's answers for paths: "48 for paths, each offered and sold in this round, price or 0".
+-- The answers of a round for its paths: rule 7.18.
 use mathlib.Core.List.{List, [], _∷_, _++_}
 use Prim.Native.Nat.{ℕ, zero, suc, _+_, _-_}
 use lib.ListN.{getD}
 
--- "each offered and sold in this round, price or 0": the row of a path, and the rows of the first `n` paths
+-- rule 7.18: the three words of a path, and the words of the first `n` paths
 abbrev pub pathRow : List ℕ → List ℕ → List ℕ → ℕ → List ℕ
 pathRow offered sold prices path = getD offered path 0 ∷ getD sold path 0 ∷ getD prices path 0 ∷ []
 

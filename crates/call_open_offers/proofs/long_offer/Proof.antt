@@ -11,8 +11,8 @@ returns c =
       c .before .least2 .ensures,
       c .before .before .least .ensures,
       c .before .before .before .capability-of .ensures,
-      c .before .before .before .before .left2 .ensures,
-      c .before .before .before .before .before .left .ensures,
+      c .before .before .before .before .before .left2 .ensures,
+      c .before .before .before .before .before .before .left .ensures,
     )
 
 pub long-offer-spec : {M : Type 1} → statement M
