@@ -148,8 +148,8 @@ fn three() -> Lists {
     at_interties(two, 2, 1, 5)
 }
 
-fn paper_case() {
-    heading(b"- the paper's case; the reserve exactly, and a cent less");
+fn worked_case() {
+    heading(b"- the worked case; the reserve exactly, and a cent less");
     let lent = three();
     disburse(RESERVE + 1000, 1000, lent);
     disburse(RESERVE + 999, 1000, lent);
@@ -381,7 +381,7 @@ fn stage_case() {
 }
 
 pub fn cases() {
-    paper_case();
+    worked_case();
     tie_cases();
     one_cases();
     all_cases();
