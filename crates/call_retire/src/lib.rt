@@ -1,4 +1,4 @@
-// Retire: removes from the register the issued entries that have ended.
+// Retire: the issued entries that have ended leave the register.
 use market::answer::Answer;
 use market::answer::Outcome;
 use market::answer::Refusal;

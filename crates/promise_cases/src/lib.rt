@@ -1,1 +1,1 @@
-// The starred cases: rows in `specs/`, computed in `proofs/`. There is nothing to run here.
+// The starred cases: rows in `specs/`, computed by the rules in `proofs/`; no code.

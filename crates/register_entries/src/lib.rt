@@ -1,5 +1,5 @@
-// The register's counted entries: those of a bidder issued, some removed, and the megawatts outstanding on a path, which are those
-// of its entries whose period shares a day with a given one.
+// The register's counted entries: a bidder's issued, some removed, and the MW outstanding on a path.
+// Outstanding are the MW of the path's entries that overlap a given period.
 use market::book::Entry;
 use market::book::Period;
 use market::engine::Engine;

@@ -1,4 +1,4 @@
-// Fresh book, deposits, open: the calls of a sheet before its first round, in the order of the sheet; and the numbers of its bidders.
+// The calls of a sheet before its first round: fresh book, deposits, open; and the numbers of its bidders.
 mod deposits;
 mod slots;
 
