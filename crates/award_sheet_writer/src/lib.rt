@@ -1,4 +1,4 @@
-// An award sheet being written: the buffer, with how many of its bytes are filled.
+// The writer of an award sheet: the buffer, with how many of its bytes are filled.
 use market::book::Book;
 ghost use mathlib.Core.Path.{_≡_};
 ghost use mathlib.Core.Bool.{true};

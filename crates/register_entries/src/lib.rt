@@ -92,7 +92,7 @@ fn counted(path: u32, period: Period, entry: Entry) -> u32
     0
 }
 
-// The megawatts of a path's counted entries whose period shares a day with `period`.
+// The outstanding megawatts of a path: those of its counted entries that overlap `period` (rule 6.3).
 pub fn outstanding_on(
     words: &[u32],
     count: usize,

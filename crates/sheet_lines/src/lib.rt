@@ -148,7 +148,7 @@ pub fn path_used(bytes: &[u8], at: usize, number: u64) -> usize
     both(path.used, route_used(bytes, at + path.used))
 }
 
-// A bid's line: bidder, path, stamp, n, and n pairs of price and MW.
+// A bid's line: bidder, path, stamp, n, and then as many pairs (rule 14.3).
 pub fn bid_used(bytes: &[u8], at: usize) -> usize
     requires { ⌜ at ≤ length (now bytes) ⌝ }
     ensures bid { λ r. ⌜ r ≡ bidUsed (drop at (now (bytes .entry))) ⌝ }
