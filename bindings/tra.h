@@ -1,7 +1,7 @@
 /* The transmission rights auction engine, to link: libtra_engine.a, which `rt staticlib tra_engine` writes to target/staticlib.
  *
  * Every function takes any numbers and any bytes, and returns: 0 where it did its work, or the number of a refusal of the calling
- * program, and then nothing that was lent has changed. 1: a lent buffer is shorter than stated. 2: the book's words are no book.
+ * program, and then nothing that was lent has changed. 1: a buffer is too short. 2: the words of the book are no book.
  *
  * A buffer is its address and how many elements it has. Addresses are not null, are aligned for their elements, and no two
  * buffers overlap; a length is the true one. Nothing can test these three for a caller in C. The functions keep nothing between

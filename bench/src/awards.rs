@@ -1,4 +1,4 @@
-//! Awards of a round: laminations by higher price, then earlier bid.
+//! Awards of a round: laminations in the order of rule 7.8.
 
 use crate::bids::{Bid, Lamination};
 

@@ -68,7 +68,7 @@ pub fn check(book: &Book, register: &[u32]) -> Result<(), u32> {
     unless(sound, refusal::UNSOUND)
 }
 
-/// MW of each path whose period shares a day with this one.
+/// The outstanding MW of each path for a period (rule 6.3).
 pub fn out(book: &Book, register: &[u32], period: Period) -> Vec<u32> {
     let mut out = vec![0; book.paths.len()];
     entries(register, book.entries)

@@ -102,8 +102,8 @@ fn eligible(charges: &Column, energies: &Column) -> Amounts {
     std::array::from_fn(|i| if charges[i] > 0 { energies[i].into() } else { 0 })
 }
 
-/// Shares a pool by weights: whole cents down, then one cent each by largest
-/// remainder, lower number first.
+/// Shares a pool by weights: whole cents, then the cents left over, by
+/// remainder and number (rules 11.5 and 11.6).
 fn share(pool: u64, weights: &Amounts) -> Result<Amounts, u32> {
     let all: u64 = weights.iter().sum();
     if pool == 0 {

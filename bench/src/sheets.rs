@@ -152,7 +152,7 @@ fn bid(line: &[u8], words: &mut Vec<u32>) -> Option<()> {
     (pairs.len() as u64 == 2 * u64::from(n)).then_some(())
 }
 
-/// Fresh book, deposits, open and rounds.
+/// The calls of a sheet, and its rounds.
 fn run(sheet: &Sheet) -> Result<(Vec<Round>, Book), u32> {
     let mut book = Book::fresh(&sheet.paths)?;
     let mut register = vec![0; register::WORDS];

@@ -3,7 +3,7 @@
 //! The exported functions take any numbers and any bytes, and test all that they need themselves. What they cannot test is what a
 //! Rust reference already is: a true length, an aligned address, and buffers that do not overlap.
 
-/// A refusal of the calling program: 1 a lent buffer is shorter than stated, 2 the book's words are no book.
+/// A refusal that the calling program causes: 1 for a short buffer, 2 for words that are no book.
 pub type Refusal = u32;
 
 /// Room for any output of a sheet, and for any reply to a line.

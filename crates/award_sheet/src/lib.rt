@@ -1,4 +1,4 @@
-// The whole award sheet, for an auction of one round and for one of two rounds, and the line that takes its place.
+// The whole award sheet of one round and of two, and the line that takes its place, each on a writer.
 pub mod refusals;
 
 use award_sheet_writer::bidders;

@@ -1,4 +1,4 @@
-// A round as it was answered: its bids, its paths and its awards, each of them after a line with their count.
+// A round on the award sheet: its bids, its paths and its awards, each after a line with their count.
 mod award_lines;
 mod bid_lines;
 mod path_lines;

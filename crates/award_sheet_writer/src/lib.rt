@@ -1,4 +1,4 @@
-// The writer of an award sheet.
+// The writer of an award sheet: the buffer, with how many of its bytes are filled.
 use market::book::Book;
 ghost use mathlib.Core.Path.{_≡_};
 ghost use mathlib.Core.Bool.{true};

@@ -1,5 +1,4 @@
-// The signed clearing account: its sum and difference with an amount, how it compares with an amount and with 0, and how large it is
-// without its sign.
+// The signed clearing account: an amount added or taken off, compared with an amount and with 0, its size.
 use market::engine::Engine;
 use market::units::Balance;
 use market::units::Cents;

@@ -1,5 +1,5 @@
-// The parts of a book: its bidder read, a part replaced, and what calls ask of a part: that the stage is idle, that a period is one
-// that open takes, that a bidder's value is 0.
+// A book's bidder, a book of which one part is another, and what calls ask of a part.
+// Asked is that the stage is idle, that a period is one that open takes, that a bidder's value is 0.
 use market::book::Bidder;
 use market::book::Book;
 use market::book::Path;

@@ -10,7 +10,7 @@ ghost use mathlib.Core.Path.{_≡_};
 ghost use Rattle.call_rules.specs.Steps.{outcomeOf, wordsAfter};
 ghost use Rattle.call_default.specs.Default as defaults;
 
-// A bidder defaults: it forfeits, and its pending entries leave the register. The answer is the draw on its letter.
+// A bidder defaults: it forfeits and loses its pending entries (rules 8.5 to 8.8). The answer is the draw on its letter.
 pub fn default(book: Book, words: &mut [u32], bidder: u32) -> Outcome
     ensures outcome { λ r. ⌜ r ≡ outcomeOf (defaults.default bidder) book (now (words .entry)) ⌝ }
     ensures words { λ r. ⌜ now (words .exit) ≡ wordsAfter (defaults.default bidder) book (now (words .entry)) ⌝ }

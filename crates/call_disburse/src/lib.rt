@@ -1,4 +1,4 @@
-// Disburse and recover: a total that leaves the clearing account, or goes into it, shared by charges and energy.
+// Disburse and recover: a total that leaves the clearing account, or comes into it, shared by charges and energy.
 mod call;
 mod columns;
 mod flow;

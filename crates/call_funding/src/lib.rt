@@ -1,4 +1,4 @@
-// Deposit and withdraw: cash and letters of credit, in and out.
+// Deposit and withdraw: cash and letters of credit, in and out; and the deposits of a list, one after another.
 mod deposits;
 mod parts;
 

@@ -1,4 +1,4 @@
-// Pay: a bidder pays what it owes after an auction.
+// Pay: a bidder settles what it owes after an auction, and its entries are issued.
 mod pay_parts;
 
 use market::answer::Answer;

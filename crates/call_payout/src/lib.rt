@@ -1,4 +1,4 @@
-// Payout: what issued rights earn in an hour.
+// Payout: what issued rights earn in an hour, paid by the clearing account.
 mod parts;
 
 use market::answer::Answer;

@@ -1,4 +1,4 @@
-// The hour of a payout, as an entry sees it.
+// The hour of a payout as one entry sees it, and what a MW earns in it.
 use market::book::Direction;
 use market::book::Path;
 use market::engine::Engine;

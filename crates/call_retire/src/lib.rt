@@ -24,7 +24,7 @@ fn refusal(book: Book, words: &[u32], day: Day) -> u32
     Refusal::NONE
 }
 
-// Removes the issued entries that ended before `day`.
+// Removes the issued entries that have ended when `day` begins (rule 9.1).
 pub fn retire(book: Book, words: &mut [u32], day: Day) -> Outcome
     ensures outcome { λ r. ⌜ r ≡ outcomeOf (rules.retire day) book (now (words .entry)) ⌝ }
     ensures words { λ r. ⌜ now (words .exit) ≡ wordsAfter (rules.retire day) book (now (words .entry)) ⌝ }

@@ -1,4 +1,4 @@
-// A round of an auction.
+// Round: a round of an auction whole, with its refusals, made of the parts above.
 mod early;
 mod effect;
 mod stage;

@@ -1,1 +1,2 @@
-// How every call is stated: rules in `specs/`, what holds of each in `proofs/`. There is nothing to run here.
+// How every call is stated, and what holds of all calls that are stated so; no code.
+// Rules are in `specs/`, what holds of each in `proofs/`.

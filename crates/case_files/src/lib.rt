@@ -1,5 +1,5 @@
-// Cases in one text, one after another. Before a case there is a line with a word, how many bytes the case has, and a name for
-// it; after the case there is one byte 10.
+// Cases found in one text, one after another.
+// Before a case there is a line with a word, how many bytes the case has, and a name for it; after the case there is one byte 10.
 use text_fields::Field;
 ghost use Prim.Native.Nat.{_≤_, _<_};
 ghost use lib.ListN.{length};

@@ -1,5 +1,5 @@
-// Journals of standard input, run one after the other, and the output of each, on standard output. Each is a case with the word
-// `journal`.
+// The journals of standard input, run one after the other, and the output of each, to standard output.
+// Each is a case with the word `journal`.
 use case_tools::report;
 use libc::STDIN_FILENO;
 ghost use Prim.Native.Nat.{_≤_};

@@ -1,5 +1,5 @@
-// Sheets of standard input, run one after the other, and the output of each, on standard output. Each is a case with the word
-// `sheet`: first those that are malformed, then those that are well formed.
+// The sheets of standard input, run one after the other, and the output of each, to standard output.
+// Each is a case with the word `sheet`: first those that are malformed, then those that are well formed.
 use case_tools::report;
 use libc::STDIN_FILENO;
 ghost use Prim.Native.Nat.{_≤_};

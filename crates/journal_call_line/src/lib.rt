@@ -1,4 +1,4 @@
-// The lines of a journal: what each says, read into a call and its lists.
+// The lines of a journal's calls: what each says, read into a call and its lists.
 mod heads;
 mod plain;
 

@@ -1,5 +1,5 @@
-// The fields of a journal's line. Each is read at a place of the line, with the space before it; the result also says how many
-// bytes the field takes, 0 where it is not present.
+// The fields of a journal's line, each read at a place of the line with the space before it.
+// The result also says how many bytes the field takes, 0 where it is not present.
 use text_fields::Field;
 ghost use mathlib.Core.Path.{_≡_};
 ghost use Prim.Native.Nat.{_+_, _≤_};

@@ -1,4 +1,4 @@
-// The words and the zone prices of a journal's line, read one after another from a place of it on and put at the front of a list.
+// The words and the zone prices that end a journal's line, put at the front of a list.
 use journal_fields::Price;
 ghost use mathlib.Core.Path.{_≡_};
 ghost use Prim.Native.Nat.{_+_, _≤_};

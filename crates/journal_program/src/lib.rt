@@ -1,5 +1,5 @@
-// Journals run and printed: the reply to each line of a text, and then the state. `journal_step::answer_line` makes the replies; these
-// functions only find the lines and write.
+// Journals run and printed: the reply to each line of a text, and then the state.
+// `journal_step::answer_line` makes the replies; these functions only find the lines and write.
 use journal_step::Journal;
 use journal_step::LINE_BYTES;
 use libc::STDIN_FILENO;

@@ -1,4 +1,4 @@
-// What a journal prints of the book's paths and bidders and of the register's entries, each line at the front of the buffer.
+// What a journal prints of paths, bidders and entries, each line at the front of the buffer.
 use market::book::Bidder;
 use market::book::Direction;
 use market::book::Entry;

@@ -1,4 +1,4 @@
-// One line of a journal, run: what it says is read, the engine is called, and what it answers is put into a buffer.
+// One line of a journal, run: read, made through the engine, and its reply put into a buffer.
 mod answers;
 
 use engine::calls::Call;

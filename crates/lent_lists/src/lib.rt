@@ -1,4 +1,4 @@
-// Writes the amounts of the participants to the list that is lent for them.
+// The participants' amounts, written to the list that is lent for them.
 use market::engine::Engine;
 use market::units::Cents;
 ghost use mathlib.Core.Path.{_≡_};

@@ -1,4 +1,4 @@
-// The two pools of a total, and each participant's share in them.
+// The two pools of a total, each participant's share in both, and what is refused of the columns.
 use market::answer::Refusal;
 use market::engine::Engine;
 use market::units::Cents;

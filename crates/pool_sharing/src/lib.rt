@@ -1,5 +1,5 @@
-// Sharing a pool by a column of weights: the total of a column, the weights of a pool, and what each weight gets of it: its whole cents,
-// and then the cents left over, one by one (rules 11.4 to 11.6).
+// A pool shared by weights: whole cents first, then the cents that are left over, by remainder.
+// Also the total of a column, and the weights of a pool.
 use market::engine::Engine;
 use market::units::Cents;
 ghost use mathlib.Core.Path.{_≡_};

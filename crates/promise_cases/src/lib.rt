@@ -1,1 +1,1 @@
-// The worked cases: rows in `specs/`, computed in `proofs/`. There is nothing to run here.
+// The worked cases: rows in `specs/`, computed by the rules in `proofs/`; no code.

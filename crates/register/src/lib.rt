@@ -1,4 +1,4 @@
-// The register's entries in the lent words. No crate above this one knows how an entry is stored in them.
+// The register's entries in the lent words: read, put, appended; no crate above this one knows their places.
 use market::book::Entry;
 use market::book::Period;
 use market::engine::Engine;

@@ -1,5 +1,5 @@
-// The register's counted entries: those of a bidder issued, some removed, and the megawatts outstanding on each path (rule 6.3), which
-// are those of its entries that overlap a given period.
+// The register's counted entries: a bidder's issued, some removed, and the MW outstanding on each path (rule 6.3).
+// Outstanding are the MW of a path's entries that overlap a given period.
 use market::book::Entry;
 use market::book::Period;
 use market::engine::Engine;

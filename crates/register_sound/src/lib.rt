@@ -1,4 +1,4 @@
-// Whether the book and the register that a call is lent are sound.
+// Whether the register lent to a call is long enough, and book and counted entries are sound: refusals 1 and 2.
 use market::answer::Refusal;
 use market::book::Book;
 use market::book::Entry;

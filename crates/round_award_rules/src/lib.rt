@@ -1,1 +1,1 @@
-// Awards: the order of laminations, what each takes, and what that makes for each bid and path.
+// The rules of awards and of rival awards, and the theorems about them; no code.

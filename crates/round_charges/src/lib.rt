@@ -1,4 +1,4 @@
-// What a round leaves for its bids: charges and answers.
+// The charges of a round's bids, and the answers for them.
 use market::engine::Engine;
 use market::units::Cents;
 use market::units::Megawatts;

@@ -1,4 +1,4 @@
-// The laminations of admitted bids, each in one word of the lent scratch.
+// The laminations of admitted bids, each in one word of the lent scratch: claims.
 use market::engine::Engine;
 use market::units::Cents;
 use market::units::Megawatts;

@@ -1,4 +1,4 @@
-// The winning bids of a round: how many there are, whether the register has room for them, and their entries added to it.
+// The winning bids of a round: how many, whether the register has room for them, and their entries added to it.
 use market::book::Entry;
 use market::book::Period;
 use market::engine::Engine;

@@ -1,4 +1,4 @@
-// The paths of a round: what it offers of each, what they have sold after it, its answers for them, and the stage after it.
+// The paths of a round: its offer of each, what they have sold after it, its answers for them, the stage after it.
 use market::book::Kind;
 use market::book::Path;
 use market::book::Period;

@@ -1,4 +1,4 @@
-// The bid sections of a sheet, as sub-slices of its bytes, and their words (rule 14.6).
+// The bid sections of a sheet, handed back as parts of the caller's bytes, and their words.
 use sheet_form::form::Found;
 use sheet_lines::part::Part;
 ghost use mathlib.Core.Path.{_≡_};

@@ -1,4 +1,4 @@
-// The calls of a sheet before its first round (rule 14.6), and the numbers of its bidders.
+// The calls of a sheet before its first round: fresh book, deposits, open; and the numbers of its bidders.
 mod deposits;
 mod slots;
 

@@ -1,3 +1,3 @@
-// A sheet: its form, and what its lines say.
+// What a sheet is: its form with the first faulty line, the places of its sections, what its lines say.
 pub mod form;
 pub mod rows;

@@ -1,4 +1,4 @@
-// What the lines of a sheet's bidders and paths say, and its days.
+// What the lines of a sheet's bidders and paths say, read into slots, and its days.
 use market::book::Direction;
 use market::book::Period;
 use market::engine::Engine;

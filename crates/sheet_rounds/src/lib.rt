@@ -1,4 +1,4 @@
-// The rounds of an auction, from the book that its open leaves, and the output after them.
+// The rounds of a sheet, from the book that its open leaves, and the output after them.
 use award_sheet::refusals;
 use market::answer::Outcome;
 use market::answer::Refusal;

@@ -1,5 +1,5 @@
-// A number and the byte that ends it, and numbers one after another. What is read at a place is given by the bytes that it takes:
-// 0 if it is not there.
+// A number and the byte that ends it, and numbers one after another, read at a place of a text.
+// What is read at a place is given by the bytes that it takes: 0 if it is not there.
 ghost use mathlib.Core.Path.{_≡_};
 ghost use mathlib.Core.Bool.{cond};
 ghost use Prim.Native.Nat.{_+_, _≤_};

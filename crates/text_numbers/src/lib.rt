@@ -1,4 +1,4 @@
-// Numbers as text: read at a place of a text, and written into a buffer.
+// Numbers as decimal text: read at a place of a text, and written into a buffer.
 use market::engine::Engine;
 ghost use mathlib.Core.Path.{_≡_};
 ghost use Prim.Native.Nat.{_+_, _≤_};

@@ -1,4 +1,4 @@
-// Numbers and words written into the buffer, each with the byte that ends it.
+// Numbers and words written into a buffer, each with the byte that ends it.
 ghost use mathlib.Core.List.{_++_, _∷_, []};
 ghost use Prim.Native.Nat.{_+_, _≤_};
 ghost use lib.ListN.{length};

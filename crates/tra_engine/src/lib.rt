@@ -1,5 +1,4 @@
-// The engine as a static library for C and Rust programs (rule 16.1). Each function may be called with any arguments: none has a requirement
-// on them.
+// The functions of the static library for C and Rust programs; each takes any arguments.
 use journal_step::Journal;
 use journal_step::LINE_BYTES;
 use journal_step::REPLY_ROOM;
