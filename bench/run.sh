@@ -15,7 +15,7 @@ mkdir -p target/c
 for program in sheet journal; do
     cc -std=c99 -O2 -Wall -Wextra -Werror -o "target/c/$program" "bindings/c/$program.c" target/staticlib/libtra_engine.a
 done
-for sample in paper long; do
+for sample in short long; do
     target/c/sheet < "samples/$sample.sheet" | cmp - "samples/$sample.award"
 done
 target/c/journal < samples/year.journal | cmp - <(grep -vE '^# (book|path|bidder|entry) ' samples/year.answers)

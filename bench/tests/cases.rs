@@ -55,7 +55,7 @@ fn journal_cases() {
 
 #[test]
 fn samples() {
-    assert_eq!(sheets::output(&file("samples/paper.sheet")), file("samples/paper.award"));
+    assert_eq!(sheets::output(&file("samples/short.sheet")), file("samples/short.award"));
     assert_eq!(sheets::output(&file("samples/long.sheet")), file("samples/long.award"));
     assert_eq!(journals::output(&file("samples/year.journal")), file("samples/year.answers"));
 }
