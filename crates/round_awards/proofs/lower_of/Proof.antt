@@ -1,3 +1,4 @@
+-- By cases: where one price is none the other is the lower, and of two prices it is the least (`lower-both`).
 use native.Mathlib.Omega.{arith}
 use mathlib.Core.Path.{sym, _∙_, ap}
 use Prim.Native.Nat.{ℕ}
