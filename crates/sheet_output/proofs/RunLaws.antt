@@ -5,6 +5,7 @@ use mathlib.Core.List.{List, [], _∷_, map}
 use Prim.Native.Nat.{ℕ, _≤_}
 use native.Mathlib.Omega.{arith}
 use lib.ListN.{length, take, drop}
+use Rattle.market.proofs.KindLaws.{map-take}
 use Rattle.market.specs.Answers.{answerNumber, answered}
 use Rattle.market.specs.Books.{every}
 use Rattle.market.specs.Limits.{bidderLimit}
@@ -27,7 +28,7 @@ use Rattle.sheet_form.specs.declared.form.Found.{Found}
 use Rattle.sheet_form.specs.declared.rows.BidderLine.{BidderLine}
 use Rattle.sheet_form.specs.declared.rows.BidderRows.{BidderRows}
 use Rattle.sheet_form.specs.declared.rows.PathRows.{PathRows}
-use Rattle.sheet_calls.proofs.CallLaws.{map-take, rows-taken, rows-listed, slots-opened}
+use Rattle.sheet_calls.proofs.CallLaws.{rows-taken, rows-listed, slots-opened}
 use Rattle.sheet_calls.specs.CallSlots.{isListed, openedSlots}
 use Rattle.sheet_calls.specs.Calls.{emptyRegister}
 use Rattle.award_sheet_parts.specs.AwardSheet.{isBidder, refusedText}
