@@ -53,7 +53,7 @@ fn bidder(cash: u64, applied: u64, letter: u64, hold: u64, owed: u64) -> Bidder 
     }
 }
 
-// The book after the worked sheet of `promise_cases`: bidders 3 and 7 have won, and the register counts `entries`.
+// The book after the starred sheet of `promise_cases`: bidders 3 and 7 have won, and the register counts `entries`.
 fn book_of_sheet(entries: usize) -> Book {
     let routes = [Route {
         direction: Direction::Export,

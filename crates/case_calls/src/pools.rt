@@ -141,15 +141,15 @@ fn heading(name: &[u8]) {
     report::line();
 }
 
-// The worked case of `promise_cases`: participants 0 and 1 pay a provincial charge of 1 each, for 1 and 3 MWh, and participant 2 an export charge of 1, for 5.
+// The starred case of `promise_cases`: participants 0 and 1 pay a provincial charge of 1 each, for 1 and 3 MWh, and participant 2 an export charge of 1, for 5.
 fn three() -> Lists {
     let one = at_meters(filled(0, 0), 0, 1, 1);
     let two = at_meters(one, 1, 1, 3);
     at_interties(two, 2, 1, 5)
 }
 
-fn worked_case() {
-    heading(b"- the worked case; the reserve exactly, and a cent less");
+fn starred_case() {
+    heading(b"- the starred case; the reserve exactly, and a cent less");
     let lent = three();
     disburse(RESERVE + 1000, 1000, lent);
     disburse(RESERVE + 999, 1000, lent);
@@ -381,7 +381,7 @@ fn stage_case() {
 }
 
 pub fn cases() {
-    worked_case();
+    starred_case();
     tie_cases();
     one_cases();
     all_cases();

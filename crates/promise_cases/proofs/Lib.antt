@@ -1,2 +1,2 @@
--- The worked cases, computed.
+-- The starred cases, computed.
 pub mod TheCases

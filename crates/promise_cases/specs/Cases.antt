@@ -1,4 +1,4 @@
--- Worked cases with their numbers, proved of the rules themselves and not only tested: rules 6.3 to 6.7, rules 7.6 to 7.18, rules 8.5 to 8.7,
+-- Starred cases with their numbers, proved of the rules themselves and not only tested: rules 6.3 to 6.7, rules 7.6 to 7.18, rules 8.5 to 8.7,
 -- rule 10.4 and rules 11.3 to 11.7. Each is a list of calls that the rules take from a fresh book, and what they then say.
 use mathlib.Core.Path.{_≡_}
 use mathlib.Core.Bool.{false}
@@ -142,7 +142,7 @@ stage m = m .book .stage
 abbrev pub noBids : List Made
 noBids = run (exportPath ∷ []) (opens Short (1000 ∷ 60 ∷ 80 ∷ 100 ∷ []) ∷ bidding [] ∷ [])
 
--- the worked sheet, call by call
+-- the starred sheet, call by call
 abbrev pub sheetCalls : List Request
 sheetCalls =
     cashDeposit 3 100000
@@ -192,7 +192,7 @@ atLimit = biddingFrom100000 (0 ∷ 0 ∷ 0 ∷ 1 ∷ 1000000 ∷ 1 ∷ [])
 abbrev pub overLimit : List Made
 overLimit = biddingFrom100000 (0 ∷ 0 ∷ 0 ∷ 1 ∷ 1000001 ∷ 1 ∷ 0 ∷ 1 ∷ 0 ∷ 1 ∷ 999999 ∷ 1 ∷ [])
 
--- a bidder of the worked sheet defaults
+-- a bidder of the starred sheet defaults
 abbrev pub defaulting : ℕ → List Made
 defaulting bidder = run (exportPath ∷ []) (sheetCalls ++ defaults bidder ∷ [])
 
@@ -236,7 +236,7 @@ pub record NoBids : Type 0 where
   pub path : lastly pathAnswers [] noBids ≡ 60 ∷ 0 ∷ 0 ∷ []
   pub idle-after : map stage noBids ≡ stages.Open Short 1 month ∷ stages.Idle ∷ []
 
--- rules 7.6 to 7.14: the worked sheet, with the words of its bids and its path, its bidders and its entries
+-- rules 7.6 to 7.14: the starred sheet, with the words of its bids and its path, its bidders and its entries
 pub record SheetCase : Type 0 where
   pub answered : map answer sheet ≡ Done ∷ Done ∷ Done ∷ Bids 2 ∷ []
   pub bids :
@@ -283,7 +283,7 @@ pub record Earnings : Type 0 where
 pub record Shares : Type 0 where
   pub shared-out : lastly (amounts 3) [] disbursing ≡ 167 ∷ 499 ∷ 334 ∷ []
 
--- every worked case
+-- every starred case
 pub record Starred : Type 0 where
   pub no-bids : NoBids
   pub sheet : SheetCase

@@ -1,3 +1,3 @@
--- The worked cases, as rows about the rules.
+-- The starred cases, as rows about the rules.
 pub mod SheetText
 pub mod Cases

@@ -1,4 +1,4 @@
--- The worked sheet as text, from bytes to bytes (rules 14.3, 14.7 and 14.9): a sheet, its output, and the same sheet with a deposit over its
+-- The starred sheet as text, from bytes to bytes (rules 14.3, 14.7 and 14.9): a sheet, its output, and the same sheet with a deposit over its
 -- limit. A line of the text is a line here.
 use mathlib.Core.Path.{_≡_}
 use mathlib.Core.List.{List, [], _∷_}

@@ -1,1 +1,1 @@
-// The worked cases: rows in `specs/`, computed by the rules in `proofs/`; no code.
+// The starred cases: rows in `specs/`, computed by the rules in `proofs/`; no code.
