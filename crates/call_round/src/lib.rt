@@ -91,11 +91,8 @@ pub fn round(
         };
     }
     let worked = worked::work_out(book, bids);
-    if worked.bids <= Engine::ENTRIES - book.entries {
-        let awarded = worked::award(bids, worked, scratch);
-        return answered(book, words, bids, worked, awarded, answers, results);
-    }
-    let awarded = worked::award_apart(bids, worked);
+    let sure = worked.bids <= Engine::ENTRIES - book.entries;
+    let awarded = worked::award(bids, worked, sure, scratch);
     let won = awarded.won;
     if !round_entries::has_room(book.entries, won, worked.bids) {
         return Outcome {

@@ -5,7 +5,7 @@ use market::engine::Engine;
 use market::units::Megawatts;
 use round_awards::Awarded;
 ghost use mathlib.Core.Path.{_≡_};
-ghost use mathlib.Core.Bool.{true};
+ghost use mathlib.Core.Bool.{true, false};
 ghost use Prim.Native.Nat.{_≤_};
 ghost use lib.ListN.{length};
 ghost use Rattle.market.specs.Books.{every, inMegawatts};
@@ -48,8 +48,9 @@ pub fn work_out(book: Book, bids: &[u32]) -> Worked
     }
 }
 
-// The awards of a round, put in order in the scratch that is lent.
-pub fn award(bids: &[u32], worked: Worked, scratch: &mut [u32]) -> Awarded
+// The awards of a round. They are put in order in the scratch that is lent if it is `sure` that nothing is refused, and
+// otherwise apart from it.
+pub fn award(bids: &[u32], worked: Worked, sure: bool, scratch: &mut [u32]) -> Awarded
     requires { ⌜ BidList (now bids) ⌝ }
     requires { ⌜ worked .bids ≡ length (bidsOf (now bids)) ⌝ }
     requires { ⌜ length (worked .marks) ≡ bidLimit ⌝ }
@@ -57,20 +58,13 @@ pub fn award(bids: &[u32], worked: Worked, scratch: &mut [u32]) -> Awarded
     requires { ⌜ scratchWords ≤ length (now scratch) ⌝ }
     ensures awards { λ r. ⌜ AwardedOut worked (now (bids .entry)) r ⌝ }
     ensures scratch { λ _. ⌜ length (now (scratch .exit)) ≡ length (now (scratch .entry)) ⌝ }
+    ensures apart { λ _. ⌜ (sure ≡ false → now (scratch .exit) ≡ now (scratch .entry)) ⌝ }
 {
     let marks = worked.marks;
     let offered = worked.offered;
-    round_awards::award_bids(bids, &marks, worked.bids, offered, scratch)
-}
-
-// The same awards, worked out while nothing that is lent may be touched.
-pub fn award_apart(bids: &[u32], worked: Worked) -> Awarded
-    requires { ⌜ BidList (now bids) ⌝ }
-    requires { ⌜ worked .bids ≡ length (bidsOf (now bids)) ⌝ }
-    requires { ⌜ length (worked .marks) ≡ bidLimit ⌝ }
-    requires { ⌜ every soundQuantity (inMegawatts (worked .offered)) ≡ true ⌝ }
-    ensures { λ r. ⌜ AwardedOut worked (now (bids .entry)) r ⌝ }
-{
+    if sure {
+        return round_awards::award_bids(bids, &marks, worked.bids, offered, scratch);
+    }
     let mut own = [0u32; Engine::SCRATCH_WORDS];
-    award(bids, worked, &mut own)
+    round_awards::award_bids(bids, &marks, worked.bids, offered, &mut own)
 }

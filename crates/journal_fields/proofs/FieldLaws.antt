@@ -8,12 +8,11 @@ use lib.Dec.{leb, eqb}
 use lib.ListN.{length, drop, length-drop}
 use lib.Seq.{drop-drop}
 use borrow.Author.Tests.{eq-eqb, ne-eqb, leb-true}
-use Rattle.market.proofs.Tests.{right-true}
 use Rattle.text_numbers.specs.Decimal.{digitsIn, valueFrom, noLeadingZero}
 use Rattle.text_fields.specs.Fields.{space, startsWith}
 use Rattle.text_fields.specs.declared.Field.{Field}
 use Rattle.text_fields.proofs.ReadLaws.{starts-fit}
-use Rattle.journal_fields.specs.JournalFields.{noField, numeralWithin, numeralOf, numeral, fieldAfter, number, closing, lastNumber, choice}
+use Rattle.journal_fields.specs.JournalFields.{noField, valueUpTo, numeral, fieldAfter, number, closing, lastNumber, choice}
 
 -- a word that is present at a place ends within the line
 pub word-room : (word line : List ℕ) (at : ℕ) → at ≤ length line → startsWith word (drop at line) ≡ true → at + length word ≤ length line
@@ -21,22 +20,20 @@ word-room word line at h e = omega (arith, starts-fit word (drop at line) e, len
 
 -- ---- What is read is within its limit
 
-within-of : (limit : ℕ) (ds : List ℕ) (t : Bool) → numeralWithin limit ds ≡ t → cond t (valueFrom 0 ds) 0 ≤ limit
-within-of limit ds true e = leb-true (valueFrom 0 ds) limit (right-true (noLeadingZero ds) (leb (valueFrom 0 ds) limit) e)
-within-of limit ds false e = omega arith
-
-value-of : (limit : ℕ) (ds : List ℕ) (t : Bool) → numeralOf limit ds .value ≡ cond (numeralWithin limit ds) (valueFrom 0 ds) 0
-value-of limit ds t = go (numeralWithin limit ds)
+up-to-within : (limit : ℕ) (ds : List ℕ) → valueUpTo limit ds .value ≤ limit
+up-to-within limit ds = go (leb (valueFrom 0 ds) limit) refl
   where
-    go : (s : Bool) → (cond s (record { value = valueFrom 0 ds; used = length ds }) noField) .value ≡ cond s (valueFrom 0 ds) 0
-    go true = refl
-    go false = refl
+    go : (t : Bool) → leb (valueFrom 0 ds) limit ≡ t → (cond t (record { value = valueFrom 0 ds; used = length ds }) noField) .value ≤ limit
+    go true e = leb-true (valueFrom 0 ds) limit e
+    go false e = omega arith
 
 pub numeral-within : (limit : ℕ) (text : List ℕ) → numeral limit text .value ≤ limit
 unfolding numeral
-numeral-within limit text =
-    let ds = digitsIn text in
-    omega (arith, value-of limit ds true, within-of limit ds (numeralWithin limit ds) refl)
+numeral-within limit text = go (noLeadingZero (digitsIn text))
+  where
+    go : (t : Bool) → (cond t (valueUpTo limit (digitsIn text)) noField) .value ≤ limit
+    go true = up-to-within limit (digitsIn text)
+    go false = omega arith
 
 behind-within : (limit n : ℕ) (f : Field) (t : Bool) → f .value ≤ limit → (cond t noField (record { value = f .value; used = n + f .used })) .value ≤ limit
 behind-within limit n f true h = omega arith

@@ -1,165 +1,152 @@
 -- Laws about a number that is read digit by digit.
 use mathlib.Core.Path.{_≡_, refl, sym, _∙_, ap, ap₂}
-use mathlib.Core.Bool.{Bool, true, false, cond, not, _&&_, and-false}
+use mathlib.Core.Bool.{Bool, true, false, cond, not}
 use mathlib.Core.List.{List, [], _∷_}
-use Prim.Native.Nat.{ℕ, zero, suc, _+_, _*_, _-_, _≤_, _<_}
+use Prim.Native.Nat.{ℕ, _+_, _*_, _-_, _≤_, _<_}
 use native.Mathlib.Omega.{arith}
 use lib.Dec.{leb}
 use lib.ListN.{length, getD, drop}
-use borrow.Author.Tests.{le-leb, lt-leb, leb-true, leb-false, eq-eqb, ne-eqb}
+use borrow.Author.Tests.{le-leb, lt-leb, eq-eqb, ne-eqb}
 use Rattle.text_numbers.specs.Decimal.{zeroByte, digitsIn, valueFrom, noLeadingZero}
 use Rattle.text_numbers.proofs.DecimalLaws.{is-digit, value-least}
-use Rattle.text_numbers.proofs.ReadLaws.{below-digits, above-digits, past-text, past-digits, first-digit}
+use Rattle.text_numbers.proofs.ReadLaws.{below-digits, above-digits, past-text, past-digits, first-digit, DigitHere, digit-here}
 use Rattle.text_fields.specs.declared.Field.{Field}
-use Rattle.journal_fields.specs.JournalFields.{noField, numeralOf, numeral}
+use Rattle.journal_fields.specs.JournalFields.{noField, valueUpTo, numeralOf, numeral}
 
-abbrev pub noMore : List ℕ → Bool
-noMore [] = true
-noMore (c ∷ cs) = false
+abbrev made : ℕ → ℕ → Field
+made v n = record { value = v; used = n }
 
-plain-zero : (c : ℕ) (ds : List ℕ) → c ≡ zeroByte → noLeadingZero (c ∷ ds) ≡ noMore ds
-plain-zero c [] e = refl
-plain-zero c (d ∷ ds) e = ap not (eq-eqb c zeroByte e)
+-- ---- The value of digits, up to a limit
 
-plain-some : (c : ℕ) (ds : List ℕ) → (c ≡ zeroByte → ⊥) → noLeadingZero (c ∷ ds) ≡ true
-plain-some c [] e = refl
-plain-some c (d ∷ ds) e = ap not (ne-eqb c zeroByte e)
-
-not-plain : (limit : ℕ) (ds : List ℕ) → noLeadingZero ds ≡ false → noField ≡ numeralOf limit ds
-not-plain limit ds e =
-    ap (λ (t : Bool). cond (t && leb (valueFrom 0 ds) limit) (record { value = valueFrom 0 ds; used = length ds }) noField) (sym e)
-
-over : (limit : ℕ) (ds : List ℕ) → limit < valueFrom 0 ds → noField ≡ numeralOf limit ds
-over limit ds h =
-    ap (λ (t : Bool). cond t (record { value = valueFrom 0 ds; used = length ds }) noField)
-    (sym (ap (λ (t : Bool). noLeadingZero ds && t) (lt-leb (valueFrom 0 ds) limit h) ∙ and-false (noLeadingZero ds)))
-
-present : (limit : ℕ) (ds : List ℕ) → noLeadingZero ds ≡ true → valueFrom 0 ds ≤ limit → record { value = valueFrom 0 ds; used = length ds } ≡ numeralOf limit ds
-present limit ds e h =
-    ap (λ (t : Bool). cond t (record { value = valueFrom 0 ds; used = length ds }) noField)
-    (sym (ap₂ (λ (s t : Bool). s && t) e (le-leb (valueFrom 0 ds) limit h)))
-
--- the number at a place, read as far as `i`: its digits up to there say `value`
+-- the digits at a place, read as far as `i`: those up to there say `value`
 module _ (text : List ℕ) (at limit : ℕ) where
   abbrev ds : List ℕ
   ds = digitsIn (drop at text)
 
-  pub record NumeralTo (i value : ℕ) : Type 0 where
+  pub record DigitsTo (i value : ℕ) : Type 0 where
     pub behind : at ≤ i
     pub inside : i ≤ length text
     pub within : value ≤ limit
-    pub none : i ≡ at → value ≡ 0
     pub says : valueFrom 0 ds ≡ valueFrom value (digitsIn (drop i text))
     pub count : length ds + at ≡ i + length (digitsIn (drop i text))
-    pub leading : at < i → value ≡ 0 → noLeadingZero ds ≡ noMore (digitsIn (drop i text))
-    pub some : at < i → 1 ≤ value → noLeadingZero ds ≡ true
 
-  pub numeral-none : at ≤ length text → NumeralTo at 0
-  numeral-none h =
+  pub digits-none : at ≤ length text → DigitsTo at 0
+  digits-none h =
       record {
         behind = omega arith;
         inside = h;
         within = omega arith;
-        none = λ e. refl;
         says = refl;
         count = omega arith;
-        leading = λ past e. absurd (let no : ⊥ = omega arith in no);
-        some = λ past e. absurd (let no : ⊥ = omega arith in no);
       }
 
-  abbrev made : ℕ → ℕ → Field
-  made v n = record { value = v; used = n }
-
-  module _ (i value : ℕ) (to : NumeralTo i value) where
+  module _ (i value : ℕ) (to : DigitsTo i value) where
     -- the digits end here
-    pub ended : digitsIn (drop i text) ≡ [] → made value (i - at) ≡ numeral limit (drop at text)
-    unfolding numeral
-    ended e = go ds refl
-      where
-        said : valueFrom 0 ds ≡ value
-        said = to .says ∙ ap (valueFrom value) e
+    ended : digitsIn (drop i text) ≡ [] → made value (i - at) ≡ valueUpTo limit ds
+    ended e =
+        let said : valueFrom 0 ds ≡ value = to .says ∙ ap (valueFrom value) e in
+        let long : i - at ≡ length ds = omega (arith, to .count, ap length e) in
+        ap₂ made (sym said) long
+        ∙ ap (λ (t : Bool). cond t (made (valueFrom 0 ds) (length ds)) noField) (sym (le-leb (valueFrom 0 ds) limit (omega (arith, said, to .within))))
 
-        counted : length ds + at ≡ i
-        counted = omega (arith, to .count, ap length e)
-
-        plain-here : (v : ℕ) → value ≡ v → at < i → noLeadingZero ds ≡ true
-        plain-here zero z past = to .leading past z ∙ ap noMore e
-        plain-here (suc v) z past = to .some past (omega arith)
-
-        go : (xs : List ℕ) → ds ≡ xs → made value (i - at) ≡ numeralOf limit ds
-        go [] d =
-            let here : i ≡ at = omega (arith, counted, ap length d) in
-            let gone : i - at ≡ 0 = omega arith in
-            ap₂ made (to .none here) gone ∙ not-plain limit ds (ap noLeadingZero d)
-        go (c ∷ cs) d =
-            let past : at < i = omega (arith, counted, ap length d) in
-            let long : i - at ≡ length ds = omega (arith, counted) in
-            ap₂ made (sym said) long ∙ present limit ds (plain-here value refl past) (omega (arith, said, to .within))
-
-    pub ended-below : i < length text → getD text i 0 < zeroByte → made value (i - at) ≡ numeral limit (drop at text)
+    pub ended-below : i < length text → getD text i 0 < zeroByte → made value (i - at) ≡ valueUpTo limit ds
     ended-below h low = ended (past-digits text i h (below-digits (getD text i 0) low))
 
-    pub ended-above : i < length text → zeroByte + 9 < getD text i 0 → made value (i - at) ≡ numeral limit (drop at text)
+    pub ended-above : i < length text → zeroByte + 9 < getD text i 0 → made value (i - at) ≡ valueUpTo limit ds
     ended-above h high = ended (past-digits text i h (above-digits (getD text i 0) high))
 
-    pub ended-line : length text ≤ i → made value (i - at) ≡ numeral limit (drop at text)
+    pub ended-line : length text ≤ i → made value (i - at) ≡ valueUpTo limit ds
     ended-line h = ended (past-text text i h)
 
     -- one more digit is present here
     module _ (h : i < length text) (low : zeroByte ≤ getD text i 0) (high : getD text i 0 ≤ zeroByte + 9) where
-      abbrev c : ℕ
-      c = getD text i 0
-
       abbrev rest : List ℕ
       rest = digitsIn (drop (i + 1) text)
 
-      first : digitsIn (drop i text) ≡ c ∷ rest
-      first = first-digit text i h (is-digit c low high)
+      first : digitsIn (drop i text) ≡ getD text i 0 ∷ rest
+      first = first-digit text i h (is-digit (getD text i 0) low high)
 
       abbrev next : ℕ
-      next = value * 10 + (c - zeroByte)
+      next = value * 10 + (getD text i 0 - zeroByte)
 
       says-next : valueFrom 0 ds ≡ valueFrom next rest
       says-next = to .says ∙ ap (valueFrom value) first
 
-      -- it comes after a leading zero
-      pub zero-first : at < i → value ≡ 0 → noField ≡ numeral limit (drop at text)
-      unfolding numeral
-      zero-first past z = not-plain limit ds (to .leading past z ∙ ap noMore first)
+      -- it makes the value larger than the limit
+      pub too-large : limit < next → noField ≡ valueUpTo limit ds
+      too-large more =
+          ap (λ (t : Bool). cond t (made (valueFrom 0 ds) (length ds)) noField)
+          (sym (lt-leb (valueFrom 0 ds) limit (omega (arith, says-next, value-least next rest))))
 
-      -- it makes the number larger than the limit
-      pub too-large : limit < next → noField ≡ numeral limit (drop at text)
-      unfolding numeral
-      too-large more = over limit ds (omega (arith, says-next, value-least next rest))
-
-      -- otherwise the number goes on
-      pub numeral-more : (at < i → 1 ≤ value) → next ≤ limit → NumeralTo (i + 1) next
-      numeral-more nonzero fits =
+      -- otherwise the digits go on
+      pub digits-more : next ≤ limit → DigitsTo (i + 1) next
+      digits-more fits =
           record {
             behind = omega (arith, to .behind);
             inside = omega arith;
             within = fits;
-            none = λ e. absurd (let no : ⊥ = omega (arith, to .behind) in no);
             says = says-next;
             count = omega (arith, to .count, ap length first);
-            leading = λ past z. at-zero (leb (i) at) refl z;
-            some = λ past z. at-some (leb (i) at) refl z;
           }
-        where
-          front : i ≡ at → ds ≡ c ∷ rest
-          front e = ap (λ (k : ℕ). digitsIn (drop k text)) (sym e) ∙ first
 
-          at-zero : (t : Bool) → leb i at ≡ t → next ≡ 0 → noLeadingZero ds ≡ noMore rest
-          at-zero true e z =
-              let here : i ≡ at = omega (arith, leb-true i at e, to .behind) in
-              ap noLeadingZero (front here) ∙ plain-zero c rest (omega arith)
-          at-zero false e z = absurd (let no : ⊥ = omega (arith, nonzero (omega (arith, leb-false i at e))) in no)
+-- ---- No zero in front of another digit
 
-          at-some : (t : Bool) → leb i at ≡ t → 1 ≤ next → noLeadingZero ds ≡ true
-          at-some true e z =
-              let here : i ≡ at = omega (arith, leb-true i at e, to .behind) in
-              let no : value ≡ 0 = to .none here in
-              ap noLeadingZero (front here) ∙ plain-some c rest (λ q. let bad : ⊥ = omega arith in bad)
-          at-some false e z =
-              let past : at < i = omega (arith, leb-false i at e) in
-              to .some past (nonzero past)
+module _ (limit : ℕ) where
+  -- more than one digit was read within the limit only if there are so many
+  pub used-all : (ds : List ℕ) → valueUpTo limit ds .used ≤ length ds
+  used-all ds = go (leb (valueFrom 0 ds) limit)
+    where
+      go : (t : Bool) → (cond t (made (valueFrom 0 ds) (length ds)) noField) .used ≤ length ds
+      go true = omega arith
+      go false = omega arith
+
+  -- a zero in front of another digit
+  zero-led : (c : ℕ) (cs : List ℕ) → 1 < length (c ∷ cs) → c ≡ zeroByte → noField ≡ numeralOf limit (c ∷ cs)
+  zero-led c [] more is = absurd (let no : ⊥ = omega arith in no)
+  zero-led c (d ∷ ds) more is =
+      ap (λ (t : Bool). cond (not t) (valueUpTo limit (c ∷ d ∷ ds)) noField) (sym (eq-eqb c zeroByte is))
+
+  -- another digit in front
+  other-led : (c : ℕ) (cs : List ℕ) → (c ≡ zeroByte → ⊥) → valueUpTo limit (c ∷ cs) ≡ numeralOf limit (c ∷ cs)
+  other-led c [] other = refl
+  other-led c (d ∷ ds) other =
+      ap (λ (t : Bool). cond (not t) (valueUpTo limit (c ∷ d ∷ ds)) noField) (sym (ne-eqb c zeroByte other))
+
+  -- at most one digit within the limit: there is none, one, or the value is over the limit
+  pub few-used : (ds : List ℕ) → valueUpTo limit ds .used ≤ 1 → valueUpTo limit ds ≡ numeralOf limit ds
+  few-used [] few = go (leb 0 limit)
+    where
+      go : (t : Bool) → cond t noField noField ≡ noField
+      go true = refl
+      go false = refl
+  few-used (c ∷ []) few = refl
+  few-used (c ∷ d ∷ ds) few = go (leb (valueFrom 0 (c ∷ d ∷ ds)) limit) refl (noLeadingZero (c ∷ d ∷ ds))
+    where
+      field : Bool → Field
+      field t = cond t (made (valueFrom 0 (c ∷ d ∷ ds)) (length (c ∷ d ∷ ds))) noField
+
+      go : (t : Bool) → leb (valueFrom 0 (c ∷ d ∷ ds)) limit ≡ t → (s : Bool) → field t ≡ cond s (field t) noField
+      go true e s = absurd (let no : ⊥ = omega (arith, few, ap (λ (t : Bool). field t .used) e) in no)
+      go false e true = refl
+      go false e false = refl
+
+  module _ (text : List ℕ) (at : ℕ) (more : 1 < valueUpTo limit (digitsIn (drop at text)) .used) where
+    pub here : DigitHere text at
+    here = digit-here text at (omega (arith, used-all (digitsIn (drop at text))))
+
+    pub zero-first : getD text at 0 ≡ zeroByte → noField ≡ numeral limit (drop at text)
+    unfolding numeral
+    zero-first is =
+        zero-led (getD text at 0) (digitsIn (drop (at + 1) text)) (omega (arith, used-all (digitsIn (drop at text)), ap length (here .first))) is
+        ∙ ap (numeralOf limit) (sym (here .first))
+
+    pub other-first : (getD text at 0 ≡ zeroByte → ⊥) → valueUpTo limit (digitsIn (drop at text)) ≡ numeral limit (drop at text)
+    unfolding numeral
+    other-first other =
+        ap (valueUpTo limit) (here .first)
+        ∙ other-led (getD text at 0) (digitsIn (drop (at + 1) text)) other
+        ∙ ap (numeralOf limit) (sym (here .first))
+
+  pub few-first : (text : List ℕ) → valueUpTo limit (digitsIn text) .used ≤ 1 → valueUpTo limit (digitsIn text) ≡ numeral limit text
+  unfolding numeral
+  few-first text few = few-used (digitsIn text) few

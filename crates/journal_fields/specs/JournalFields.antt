@@ -25,12 +25,13 @@ noField = record { value = 0; used = 0 }
 abbrev pub present : Field → Bool
 present f = not (eqb (f .used) 0)
 
--- rules 15.1 and 15.3: digits with no zero in front of another digit, whose value is at most a limit
-abbrev pub numeralWithin : ℕ → List ℕ → Bool
-numeralWithin limit ds = noLeadingZero ds && leb (valueFrom 0 ds) limit
+-- rule 15.3: the value of digits, and how many they are, if the value is at most a limit
+abbrev pub valueUpTo : ℕ → List ℕ → Field
+valueUpTo limit ds = cond (leb (valueFrom 0 ds) limit) (record { value = valueFrom 0 ds; used = length ds }) noField
 
+-- rules 15.1 and 15.3: digits with no zero in front of another digit, whose value is at most a limit
 abbrev pub numeralOf : ℕ → List ℕ → Field
-numeralOf limit ds = cond (numeralWithin limit ds) (record { value = valueFrom 0 ds; used = length ds }) noField
+numeralOf limit ds = cond (noLeadingZero ds) (valueUpTo limit ds) noField
 
 -- the number at the front of a text
 unfoldable pub numeral : ℕ → List ℕ → Field

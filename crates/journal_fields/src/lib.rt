@@ -4,6 +4,7 @@ use text_fields::Field;
 ghost use mathlib.Core.Path.{_≡_};
 ghost use Prim.Native.Nat.{_+_, _≤_};
 ghost use lib.ListN.{length, drop};
+ghost use Rattle.text_numbers.specs.Decimal.{digitsIn};
 ghost use Rattle.journal_fields.specs.JournalFields as rules;
 
 // The largest number that fits 64 bits.
@@ -28,13 +29,14 @@ pub fn behind(line: &[u8], at: usize) -> &[u8]
     &line[at..]
 }
 
-// The number at a place, up to a limit.
-pub fn numeral_at(line: &[u8], at: usize, limit: u64) -> Field
+// The value of the digits at a place, and how many they are: 0 of both if the value is over a limit.
+fn digits_at(line: &[u8], at: usize, limit: u64) -> Field
     requires { ⌜ at ≤ length (now line) ⌝ }
-    ensures field { λ r. ⌜ r ≡ rules.numeral limit (drop at (now (line .entry))) ⌝ }
+    ensures field { λ r. ⌜ r ≡ rules.valueUpTo limit (digitsIn (drop at (now (line .entry)))) ⌝ }
     ensures fits { λ r. ⌜ at + r .used ≤ length (now (line .entry)) ⌝ }
 {
     let none = Field { value: 0, used: 0 };
+    let tenth = limit / 10;
     let mut value: u64 = 0;
     let mut i = at;
     while i < line.len() {
@@ -52,24 +54,35 @@ pub fn numeral_at(line: &[u8], at: usize, limit: u64) -> Field
             };
         }
         let digit = (c - ZERO) as u64;
-        if at < i {
-            if value == 0 {
-                return none;
-            }
-        }
-        if limit < digit {
+        if tenth < value {
             return none;
         }
-        if (limit - digit) / 10 < value {
+        let tens = value * 10;
+        if limit - tens < digit {
             return none;
         }
-        value = value * 10 + digit;
+        value = tens + digit;
         i += 1;
     }
     Field {
         value,
         used: i - at,
     }
+}
+
+// The number at a place, up to a limit.
+pub fn numeral_at(line: &[u8], at: usize, limit: u64) -> Field
+    requires { ⌜ at ≤ length (now line) ⌝ }
+    ensures field { λ r. ⌜ r ≡ rules.numeral limit (drop at (now (line .entry))) ⌝ }
+    ensures fits { λ r. ⌜ at + r .used ≤ length (now (line .entry)) ⌝ }
+{
+    let found = digits_at(line, at, limit);
+    if 1 < found.used {
+        if line[at] == ZERO {
+            return Field { value: 0, used: 0 };
+        }
+    }
+    found
 }
 
 // The number at a place after its space, up to a limit.

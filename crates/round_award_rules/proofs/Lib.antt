@@ -11,3 +11,6 @@ pub mod FillLaws
 pub mod RoundLaws
 pub mod Filling
 pub mod BestAward
+pub mod WalkWithin
+pub mod MostWithin
+pub mod ValueWithin

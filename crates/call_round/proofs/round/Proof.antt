@@ -1,8 +1,8 @@
 -- Refused before the awards (`first-stands`), or because the winners do not fit (`decides`), with everything as it was
--- (`stays`); or answered (`done`), where there is room for every bid (`room-for-all`) or, at least, for the winners
--- (`room-is`). Without an early refusal everything holds that the later calls require (`early-cleared`).
-use mathlib.Core.Path.{_≡_, refl, sym, _∙_, ap, ap₂}
-use mathlib.Core.Bool.{Bool, true, false, cond, not}
+-- (`stays`); or answered (`done`), where there is room for the winners (`room-is`), as there is where there is room for
+-- every bid (`room-for-all`). Without an early refusal everything holds that the later calls require (`early-cleared`).
+use mathlib.Core.Path.{_≡_, refl, sym, _∙_, ap, ap₂, subst}
+use mathlib.Core.Bool.{Bool, true, false, cond, not, true≢false}
 use mathlib.Core.List.{List, _++_}
 use Prim.Native.Nat.{ℕ, _+_, _-_, _≤_}
 use native.Mathlib.Omega.{arith}
@@ -67,16 +67,22 @@ module _ (s : tie.Start) where
 
   -- refused, with everything as it was
   stays :
-      (k : ℕ) → k ≡ refusalOf rule b words → (k ≡ 0 → ⊥)
+      (k : ℕ) → k ≡ refusalOf rule b words → (k ≡ 0 → ⊥) → {x : List ℕ} → x ≡ scratch
       → (refused b k ≡ outcomeOf rule b words)
       × ((words ≡ wordsAfter rule b words)
       × ((answers ≡ listAfter toAnswers rule b words answers)
-      × ((results ≡ listAfter toResults rule b words results) × ScratchAfter rule b words scratch scratch)))
-  stays k is some = (
+      × ((results ≡ listAfter toResults rule b words results) × ScratchAfter rule b words scratch x)))
+  stays k is some same = (
     refuses rule b words k is some,
     (
       words-stay rule b words k is some,
-      (list-stays rule b words k is some toAnswers answers, (list-stays rule b words k is some toResults results, scratch-stays rule b words k is some scratch)),
+      (
+        list-stays rule b words k is some toAnswers answers,
+        (
+          list-stays rule b words k is some toResults results,
+          subst (ScratchAfter rule b words scratch) (sym same) (scratch-stays rule b words k is some scratch),
+        ),
+      ),
     ),
   )
 
@@ -146,6 +152,14 @@ module _ (p : tie.After-work-out) where
       let counted = early (p .before) .lent .register .count in
       le-leb (b s .entries + length (entriesNow (b s) (bids s))) entryLimit (omega (arith, room, worked .count, most, winners, counted))
 
+  -- so where there is none for the winners it is not sure that there is any
+  unsure : fits s ≡ false → leb (p .work-out .result .bids) (entryLimit - b s .entries) ≡ false
+  unsure over = go (leb (p .work-out .result .bids) (entryLimit - b s .entries)) refl
+    where
+      go : (t : Bool) → leb (p .work-out .result .bids) (entryLimit - b s .entries) ≡ t → t ≡ false
+      go true e = absurd (true≢false (sym (room-for-all (leb-true _ _ e)) ∙ over))
+      go false e = refl
+
   -- the room for the winners of these awards is the room for the rule's
   room-is :
       (a : Awarded) → AwardedOut (p .work-out .result) (s .args .bids .now) a
@@ -169,55 +183,44 @@ returns : tie.Need-returns
 unfolding refusalOf round
 returns c = let s = c .before .before .before .before .before .before .before .before .before .before .before in
     let is = c .before .refusal .ensures in
-    stays s _ (is ∙ sym (first-stands (rows s) (roomRefusals (b s) (bids s)) (λ z. c .if1 .taken (is ∙ z)))) (c .if1 .taken)
+    stays s _ (is ∙ sym (first-stands (rows s) (roomRefusals (b s) (bids s)) (λ z. c .if1 .taken (is ∙ z)))) (c .if1 .taken) refl
 
 work-out-requires : tie.Need-work-out-requires
 work-out-requires c κs = (ok c, listed _ _ _ _ _ _ (early c))
 
 award-requires : tie.Need-award-requires
-award-requires c κs = let p = c .before .before .before .before in
+award-requires c κs = let p = c .before .before .before in
     let e = early (p .before) in
     (listed _ _ _ _ _ _ e, (worked p .count, (long p, (offers-sound p, e .lent .scratch-long))))
 
-answered-requires : tie.Need-answered-requires
-answered-requires c κs = let p = c .before .before .before .before .before .before .before .before .before .before in
-    asked p _ (c .before .before .before .before .before .award .ensures .0) (room-for-all p (c .before .before .before .before .before .before .before .if2 .taken))
-
-returns-2 : tie.Need-returns-2
-returns-2 c = let p = c .before .before .before .before .before .before .before .before .before .before .before .before .before .before .before .before .before in
-    let e = c .before .before .before .before .before .before .answered .ensures in
-    let kept = c .before .before .before .before .before .before .before .before .before .before .before .before .award .ensures .1 in
-    let fit = room-for-all p (c .before .before .before .before .before .before .before .before .before .before .before .before .before .before .if2 .taken) in
-    done (s p) (none (p .before)) fit _ (e .0) (e .1 .0) (e .1 .1 .0) (e .1 .1 .1) kept
-
-award-apart-requires : tie.Need-award-apart-requires
-award-apart-requires c κs = let p = c .before .before .before in
-    (listed _ _ _ _ _ _ (early (p .before)), (worked p .count, (long p, offers-sound p)))
-
 has-room-requires : tie.Need-has-room-requires
-has-room-requires c κs = let p = c .before .before .before .before .before in
+has-room-requires c κs = let p = c .before .before .before .before .before .before .before in
     let e = early (p .before) in
     (e .lent .register .count, omega (arith, worked p .count, few _ _ (ok (p .before)) (e .list)))
 
-returns-3 : tie.Need-returns-3
-returns-3 c = let p = c .before .before .before .before .before .before .before in
-    let is = room-is p _ (c .before .before .before .award-apart .ensures) in
-    let over = sym (c .before .has-room .ensures ∙ is) ∙ not-true _ (c .if3 .taken) in
-    stays (s p) 23 (sym (decides (s p) (none (p .before)) false over)) (λ e. let no : ⊥ = omega (arith, e) in no)
+returns-2 : tie.Need-returns-2
+returns-2 c = let p = c .before .before .before .before .before .before .before .before .before in
+    let award = c .before .before .before .before .before .award .ensures in
+    let over = sym (c .before .has-room .ensures ∙ room-is p _ (award .0)) ∙ not-true _ (c .if2 .taken) in
+    stays (s p) 23 (sym (decides (s p) (none (p .before)) false over)) (λ e. let no : ⊥ = omega (arith, e) in no) (award .1 .1 (unsure p over))
 
 -- the winners fit
-fit : (p : tie.Else3) → fits (s (p .before .before .before .before .before .before .before)) ≡ true
-fit p = let is = room-is (p .before .before .before .before .before .before .before) _ (p .before .before .before .award-apart .ensures) in
-    sym (p .before .has-room .ensures ∙ is) ∙ not-false _ (p .if3 .left)
+fit : (p : tie.Else2) → fits (s (p .before .before .before .before .before .before .before .before .before)) ≡ true
+fit p =
+    let is = room-is (p .before .before .before .before .before .before .before .before .before) _ (p .before .before .before .before .before .award .ensures .0) in
+    sym (p .before .has-room .ensures ∙ is) ∙ not-false _ (p .if2 .left)
 
-answered-requires-2 : tie.Need-answered-requires-2
-answered-requires-2 c κs = let out = c .before .before .before .before .before .before .award-apart .ensures in
-    asked (c .before .before .before .before .before .before .before .before .before .before) _ out (fit (c .before .before .before))
+answered-requires : tie.Need-answered-requires
+answered-requires c κs =
+    let out = c .before .before .before .before .before .before .before .before .award .ensures .0 in
+    asked (c .before .before .before .before .before .before .before .before .before .before .before .before) _ out (fit (c .before .before .before))
 
-returns-4 : tie.Need-returns-4
-returns-4 c = let p = c .before .before .before .before .before .before .before .before .before .before .before .before .before .before .before .before .before in
-    let e = c .before .before .before .before .before .before .answered2 .ensures in
-    done (s p) (none (p .before)) (fit (c .before .before .before .before .before .before .before .before .before .before)) _ (e .0) (e .1 .0) (e .1 .1 .0) (e .1 .1 .1) refl
+returns-3 : tie.Need-returns-3
+returns-3 c = let p = c .before .before .before .before .before .before .before .before .before .before .before .before .before .before .before .before .before .before .before in
+    let e = c .before .before .before .before .before .before .answered .ensures in
+    let kept = c .before .before .before .before .before .before .before .before .before .before .before .before .before .before .before .award .ensures .1 .0 in
+    let room = fit (c .before .before .before .before .before .before .before .before .before .before) in
+    done (s p) (none (p .before)) room _ (e .0) (e .1 .0) (e .1 .1 .0) (e .1 .1 .1) kept
 
 pub round-spec : {M : Type 1} → statement M
 round-spec =
@@ -232,22 +235,15 @@ round-spec =
     work-out-requires
     (λ c. omega (arith, early (c .before .before) .lent .register .count))
     award-requires
-    answered-requires
-    (λ c. search needs)
-    (λ c. search needs)
-    (λ c. search needs)
-    (λ c. search needs)
-    returns-2
-    award-apart-requires
     has-room-requires
     (λ c. search needs)
     (λ c. search needs)
     (λ c. search needs)
     (λ c. search needs)
-    returns-3
-    answered-requires-2
+    returns-2
+    answered-requires
     (λ c. search needs)
     (λ c. search needs)
     (λ c. search needs)
     (λ c. search needs)
-    returns-4)
+    returns-3)

@@ -1,90 +1,37 @@
--- The invariant (NumeralTo): the digits before `i` say `value`, which is within the limit, and the digits from `i` on
--- continue it. A turn takes in one more digit (numeral-more). Each return is one way to stop: the digits end
--- (ended-below, ended-above, ended-line), a leading zero (zero-first), or a value over the limit (too-large).
-use borrow.Author.Needs.{needs}
+-- A zero in front of another digit is no number (zero-first); otherwise the number is what the digits say (other-first,
+-- few-first).
 use native.Mathlib.Omega.{arith}
-use mathlib.Core.Logic.{⊎-elim}
-use Prim.Native.Nat.{_-_}
-use lib.ListN.{length}
-use Rattle.journal_fields.proofs.NumeralLaws.{NumeralTo, numeral-none, numeral-more, zero-first, too-large, ended-below, ended-above, ended-line}
+use mathlib.Core.Path.{_∙_, ap}
+use borrow.Author.Needs.{needs}
+use Rattle.text_fields.specs.declared.Field.{Field}
+use Rattle.journal_fields.proofs.NumeralLaws.{here, zero-first, other-first, few-first}
 use Rattle.journal_fields.proofs.numeral_at.Statement.{statement}
 use Rattle.journal_fields.proofs.numeral_at.Tie as tie
 
-abbrev Inv-loop : tie.InvT-loop
-Inv-loop line at limit none value₀ i₀ value i = NumeralTo line at limit i value
-
-abbrev μ-loop : tie.MeasureT-loop
-μ-loop line at limit none value₀ i₀ value i = length line - i
-
-loop-holds : tie.Need-loop-holds Inv-loop μ-loop
-loop-holds c =
-    let a = c .args in
-    numeral-none (a .line .now) (a .at) (a .limit) (c .pre)
-
-returns : tie.Need-returns Inv-loop μ-loop
-returns c =
-    let a = c .before .before .before .before .args in
-    let to = c .before .before .before .loop in
-    (ended-below (a .line .now) (a .at) (a .limit) (to .i) (to .value) (to .inv) (search needs) (omega arith), search needs)
-
-returns-2 : tie.Need-returns-2 Inv-loop μ-loop
-returns-2 c =
+shared-slice-read-if2 : tie.Need-shared-slice-read-if2
+shared-slice-read-if2 c =
     let a = c .before .before .before .before .before .args in
-    let to = c .before .before .before .before .loop in
-    (ended-above (a .line .now) (a .at) (a .limit) (to .i) (to .value) (to .inv) (search needs) (omega arith), search needs)
+    let e = c .before .before .before .digits-at .ensures .0 in
+    here (a .limit) (a .line .now) (a .at) (omega (arith, c .before .if1 .taken, ap (λ (f : Field). f .used) e)) .within
 
-returns-3 : tie.Need-returns-3 Inv-loop μ-loop
+returns : tie.Need-returns
+returns c =
+    let a = c .before .before .before .before .before .before .args in
+    let e = c .before .before .before .before .digits-at .ensures .0 in
+    (zero-first (a .limit) (a .line .now) (a .at) (omega (arith, c .before .before .if1 .taken, ap (λ (f : Field). f .used) e)) (c .if2 .taken), search needs)
+
+returns-2 : tie.Need-returns-2
+returns-2 c =
+    let a = c .before .before .before .before .before .before .args in
+    let e = c .before .before .before .before .digits-at .ensures in
+    let used = ap (λ (f : Field). f .used) (e .0) in
+    (e .0 ∙ other-first (a .limit) (a .line .now) (a .at) (omega (arith, c .before .before .if1 .taken, used)) (c .if2 .left), e .1)
+
+returns-3 : tie.Need-returns-3
 returns-3 c =
-    let a = c .before .before .before .before .before .before .before .args in
-    let to = c .before .before .before .before .before .before .loop in
-    (zero-first (a .line .now) (a .at) (a .limit) (to .i) (to .value) (to .inv) (search needs) (omega arith) (omega arith) (omega arith) (omega arith), search needs)
-
-returns-4 : tie.Need-returns-4 Inv-loop μ-loop
-returns-4 c =
-    let a = c .before .before .before .before .before .before .before .args in
-    let to = c .before .before .before .before .before .before .loop in
-    (too-large (a .line .now) (a .at) (a .limit) (to .i) (to .value) (to .inv) (search needs) (omega arith) (omega arith) (omega arith), search needs)
-
-returns-5 : tie.Need-returns-5 Inv-loop μ-loop
-returns-5 c =
-    let a = c .before .before .before .before .before .before .before .before .args in
-    let to = c .before .before .before .before .before .before .before .loop in
-    (too-large (a .line .now) (a .at) (a .limit) (to .i) (to .value) (to .inv) (search needs) (omega arith) (omega arith) (omega arith), search needs)
-
-loop-again : tie.Need-loop-again Inv-loop μ-loop
-loop-again c =
-    let a = c .before .before .before .before .before .before .before .before .args in
-    let to = c .before .before .before .before .before .before .before .loop in
-    numeral-more (a .line .now) (a .at) (a .limit) (to .i) (to .value) (to .inv) (search needs) (omega arith) (omega arith)
-    (λ past. ⊎-elim (λ w. omega arith) (λ w. omega arith) (c .before .before .if3 .came))
-    (omega arith)
-
-returns-6 : tie.Need-returns-6 Inv-loop μ-loop
-returns-6 c =
-    let a = c .before .before .args in
-    let to = c .before .loop in
-    (ended-line (a .line .now) (a .at) (a .limit) (to .i) (to .value) (to .inv) (omega arith), search needs)
+    let a = c .before .before .before .before .args in
+    let e = c .before .before .digits-at .ensures in
+    (e .0 ∙ few-first (a .limit) _ (omega (arith, c .if1 .left, ap (λ (f : Field). f .used) (e .0))), e .1)
 
 pub numeral-at-spec : {M : Type 1} → statement M
-numeral-at-spec =
-    tie.close
-    (tie.spec
-    Inv-loop
-    μ-loop
-    loop-holds
-    (λ c. search needs)
-    (λ c. search needs)
-    returns
-    (λ c. search needs)
-    returns-2
-    (λ c. search needs)
-    returns-3
-    returns-4
-    returns-5
-    (λ c. search needs)
-    (λ c. search needs)
-    (λ c. search needs)
-    (λ c. search needs)
-    loop-again
-    (λ c. search needs)
-    returns-6)
+numeral-at-spec = tie.close (tie.spec (λ c κs. search needs) shared-slice-read-if2 returns returns-2 returns-3)
