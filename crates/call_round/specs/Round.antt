@@ -83,7 +83,7 @@ deskRefusals b bidWords =
 abbrev pub roomRefusals : Book → List Bid → List Row
 roomRefusals b bids = (not (leb (b .entries + length (entriesNow b bids)) entryLimit) gives 23) ∷ []
 
--- rule 13.51: a round's own rows in their order: 20, 22, bid after bid 14, 15 and 16, and 23 at the end
+-- rule 13.101: a round's own rows in their order: 20, 22, bid after bid 14, 15 and 16, and 23 at the end
 abbrev pub roundRefusals : Book → List ℕ → List Row
 roundRefusals b bidWords =
     deskRefusals b bidWords ++ (listRefusals (b .«path_count») bidWords ++ roomRefusals b (bidsOf bidWords))

@@ -1,5 +1,5 @@
 -- Any rule on a book and the entries that it counts, where no word of the register is read: which call is refused, and what the others leave.
--- Rules of all calls: rules 3.4, 13.2, 13.50 and 13.51.
+-- Rules of all calls: rules 3.4, 13.2, 13.100 and 13.101.
 use mathlib.Core.Bool.{not}
 use mathlib.Core.List.{List, _∷_, _++_}
 use Prim.Native.Nat.{ℕ, zero, suc}
@@ -26,20 +26,20 @@ unsoundRow unlent b es = unsoundBook b
 unsoundRow read b es = unsoundRegister b es
 unsoundRow (changed after) b es = unsoundRegister b es
 
--- rule 13.51: the call's lent lists come first, then soundness, then its own rows; the row of a short register is not among them
+-- rule 13.101: the call's lent lists come first, then soundness, then its own rows; the row of a short register is not among them
 abbrev pub rowsOn : Ruling → Book → List Entry → List Row
 rowsOn ruling b es = ruling .lent ++ (unsoundRow (ruling .register) b es ∷ ruling .own)
 
 -- ---- What a call leaves, by the number of its refusal
 
--- rule 13.50: the entries after a call, which a refused one leaves as before
+-- rule 13.100: the entries after a call, which a refused one leaves as before
 abbrev pub entriesBy : Register → ℕ → List Entry → List Entry
 entriesBy unlent n es = es
 entriesBy read n es = es
 entriesBy (changed after) zero es = after
 entriesBy (changed after) (suc n) es = es
 
--- rule 13.50: a lent list after a call, in the same way; then all three
+-- rule 13.100: a lent list after a call, in the same way; then all three
 abbrev pub listBy : Front → ℕ → List ℕ → List ℕ
 listBy kept n before = before
 listBy (put front) n before = decidedList before n (withFront front before)
@@ -60,7 +60,7 @@ pub record Effect : Type 0 where
   pub entries : List Entry
   pub lists : Lists
 
--- rule 13.50: what a call leaves, by the number of its refusal
+-- rule 13.100: what a call leaves, by the number of its refusal
 abbrev pub effectBy : Ruling → ℕ → Book → List Entry → Lists → Effect
 effectBy ruling n b es before =
     record {
@@ -69,6 +69,6 @@ effectBy ruling n b es before =
       lists = listsBy (ruling .fronts) n before;
     }
 
--- rules 13.50 and 13.51: what a call leaves, refused with the first row that holds or answered
+-- rules 13.100 and 13.101: what a call leaves, refused with the first row that holds or answered
 abbrev pub ruled : Rule → Book → List Entry → Lists → Effect
 ruled rule b es before = effectBy (rule .on b es) (firstOf (rowsOn (rule .on b es) b es)) b es before

@@ -1,5 +1,5 @@
 -- Any rule on a book and the words of the register, as the engine's functions keep it: the entries are those that the book counts in the words,
--- 1 may be given for a short register, and entries that change are written over the words. Rules 3.3, 7.19, 13.50 and 13.51.
+-- 1 may be given for a short register, and entries that change are written over the words. Rules 3.3, 7.19, 13.100 and 13.101.
 use mathlib.Core.Path.{_≡_}
 use mathlib.Core.Bool.{Bool, true, false}
 use mathlib.Core.List.{List, [], _∷_, _++_}
@@ -20,7 +20,7 @@ registerRows unlent b words = unsoundBook b ∷ []
 registerRows read b words = registerRefusals b words
 registerRows (changed after) b words = registerRefusals b words
 
--- rule 13.51: all rows of a call in their order: its lent lists, the register and soundness, then its own
+-- rule 13.101: all rows of a call in their order: its lent lists, the register and soundness, then its own
 abbrev pub rowsOver : Ruling → Book → List ℕ → List Row
 rowsOver ruling b words = ruling .lent ++ (registerRows (ruling .register) b words ++ ruling .own)
 
@@ -32,15 +32,15 @@ rulingOf rule b words = rule .on b (countedEntries b words)
 abbrev pub noRegister : List ℕ
 noRegister = []
 
--- rule 13.51: the number of the refusal, 0 where there is none
+-- rule 13.101: the number of the refusal, 0 where there is none
 unfoldable pub refusalOf : Rule → Book → List ℕ → ℕ
 refusalOf rule b words = firstOf (rowsOver (rulingOf rule b words) b words)
 
--- rule 13.50: answer and book after a call
+-- rule 13.100: answer and book after a call
 unfoldable pub outcomeOf : Rule → Book → List ℕ → Outcome
 outcomeOf rule b words = decided b (refusalOf rule b words) (rulingOf rule b words .outcome)
 
--- rules 3.3 and 13.50: the register's words: a refused call leaves them, and no word past the entries is written
+-- rules 3.3 and 13.100: the register's words: a refused call leaves them, and no word past the entries is written
 abbrev pub wordsBy : Register → ℕ → List ℕ → List ℕ
 wordsBy unlent n words = words
 wordsBy read n words = words
@@ -64,7 +64,7 @@ toAnswers fronts = fronts .answers
 abbrev pub toResults : Fronts → Front
 toResults fronts = fronts .results
 
--- rules 7.19 and 13.50: after an answered round the scratch holds anything, and else what it held; its length stays
+-- rules 7.19 and 13.100: after an answered round the scratch holds anything, and else what it held; its length stays
 abbrev pub ScratchBy : Bool → ℕ → List ℕ → List ℕ → Type 0
 ScratchBy false n before after = after ≡ before
 ScratchBy true zero before after = length after ≡ length before

@@ -1,4 +1,4 @@
--- How the refusals of a call are stated and told, what an answer carries, and what a refusal leaves: rules 13.50 and 13.51.
+-- How the refusals of a call are stated and told, what an answer carries, and what a refusal leaves: rules 13.100 and 13.101.
 use mathlib.Core.Bool.{Bool, cond}
 use mathlib.Core.List.{List, [], _∷_}
 use Prim.Native.Nat.{ℕ, zero, suc}
@@ -15,12 +15,12 @@ infix 20 _gives_
 abbrev pub _gives_ : Bool → ℕ → Row
 test gives number = (test, number)
 
--- rule 13.51: a call's table has its rows in the order of its refusals, and the first row whose test holds is told; 0 where none holds
+-- rule 13.101: a call's table has its rows in the order of its refusals, and the first row whose test holds is told; 0 where none holds
 abbrev pub firstOf : List Row → ℕ
 firstOf [] = 0
 firstOf (row ∷ rows) = cond (row .0) (row .1) (firstOf rows)
 
--- rule 13.50: the number that a refused call gives; 0 where the call is answered
+-- rule 13.100: the number that a refused call gives; 0 where the call is answered
 abbrev pub answerNumber : Answer → ℕ
 answerNumber (Refused number) = number
 answerNumber Done = 0
@@ -41,7 +41,7 @@ bidsIn Done = 0
 bidsIn (Drawn draw) = 0
 bidsIn (Bids bids) = bids
 
--- rule 13.50: a refused call gives its number, and the book is as before
+-- rule 13.100: a refused call gives its number, and the book is as before
 abbrev pub refused : Book → ℕ → Outcome
 refused book number = record { answer = Refused number; book = book }
 
@@ -57,12 +57,12 @@ answered book = record { answer = Done; book = book }
 abbrev pub drawn : ℕ → Book → Outcome
 drawn draw book = record { answer = Drawn (record { 0 = draw }); book = book }
 
--- rule 13.50: a call with a refusal's number leaves the book, and one with 0 has its effect on it
+-- rule 13.100: a call with a refusal's number leaves the book, and one with 0 has its effect on it
 abbrev pub decided : Book → ℕ → Outcome → Outcome
 decided book zero taken = taken
 decided book (suc n) taken = refused book (suc n)
 
--- rule 13.50: a lent list in the same way
+-- rule 13.100: a lent list in the same way
 abbrev pub decidedList : List ℕ → ℕ → List ℕ → List ℕ
 decidedList before zero taken = taken
 decidedList before (suc n) taken = before

@@ -1,4 +1,4 @@
--- Which bids a round takes, and the refusals of the others: rules 7.2 to 7.4, rules 13.14 to 13.16 and rule 13.52.
+-- Which bids a round takes, and the refusals of the others: rules 7.2 to 7.4, rules 13.14 to 13.16 and rule 13.102.
 use mathlib.Core.Path.{_≡_}
 use mathlib.Core.Bool.{Bool, true, false, cond, not, _&&_, _||_}
 use mathlib.Core.List.{List, [], _∷_, _++_}
@@ -49,7 +49,7 @@ abbrev pub stampOf : List Bid → ℕ
 stampOf [] = 0
 stampOf (b ∷ bs) = b .stamp
 
--- rules 13.14, 13.15, 13.16 and 13.52: the rows of the bid at a place, in their order; `earlier` has the bids before it, latest first
+-- rules 13.14, 13.15, 13.16 and 13.102: the rows of the bid at a place, in their order; `earlier` has the bids before it, latest first
 abbrev pub bidRefusals : ℕ → List ℕ → ℕ → List Bid → List Row
 bidRefusals paths words at earlier =
     (not (wholeAt words at && soundBid paths (bidAt words at)) gives 14)
@@ -57,7 +57,7 @@ bidRefusals paths words at earlier =
     ∷ (ltb (bidAt words at .stamp) (stampOf earlier) gives 16)
     ∷ []
 
--- rule 13.52: the rows of the bids from a place on, bid after bid, so that the first one with a fault decides; for no more bids than the first
+-- rule 13.102: the rows of the bids from a place on, bid after bid, so that the first one with a fault decides; for no more bids than the first
 -- argument
 abbrev pub refusalsFrom : ℕ → ℕ → List ℕ → ℕ → List Bid → List Row
 refusalsFrom zero paths words at earlier = []
@@ -65,7 +65,7 @@ refusalsFrom (suc more) paths words at earlier =
     cond (leb (length words) at) []
     (bidRefusals paths words at earlier ++ refusalsFrom more paths words (bidEnd words at) (bidAt words at ∷ earlier))
 
--- rule 13.52: the rows of a list of bids; it has no more bids than words
+-- rule 13.102: the rows of a list of bids; it has no more bids than words
 abbrev pub listRefusals : ℕ → List ℕ → List Row
 listRefusals paths words = refusalsFrom (length words) paths words 0 []
 
