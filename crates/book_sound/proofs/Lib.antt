@@ -1,3 +1,2 @@
 -- Laws about sound books.
-pub mod PartLaws
 pub mod RoundLaws

@@ -1,13 +1,11 @@
 // Whether a book is sound: each function decides one definition of the rules.
-ghost use Rattle.std.specs.Prelude.{◌≡◌, true, ◌&&◌, ◌||◌, ◌+◌, ◌≤◌, leb, eqb, take};
-ghost use Rattle.market.specs.Books.{every, ◌implies◌, paths_of, no_value};
+ghost use Rattle.std.specs.Prelude.{◌≡◌, ◌&&◌, ◌+◌, ◌≤◌, leb, eqb, take};
+ghost use Rattle.market.specs.Books.{every, ◌implies◌, no_value};
 ghost use Rattle.market.specs.Limits.{path_limit, round_two_owed_limit};
 ghost use Rattle.market.specs.Sound.{sound_round, sound_stage, round_of, sound_path, sound_bidder, sound_book};
-ghost use Rattle.market.specs.Sound.{sold_within, sound_direction_quantity, sound_directions};
 
 use market::book::{Bidder, Book, Kind, Path, Stage};
 use market::engine::Engine;
-use market::units::Megawatts;
 
 // Whether a sum is within a limit; the sum itself may be too large for a word.
 fn sum_within(a: u64, b: u64, limit: u64) -> bool
@@ -123,31 +121,6 @@ fn sound_bidders(round: u32, bidders: [Bidder; Engine::BIDDERS]) -> bool
     true
 }
 
-// Whether a direction quantity is within its limit, and what the direction sold within the quantity where an auction is open.
-fn sound_direction(quantity: Megawatts, idle: bool, sold: Megawatts) -> bool
-    ensures { result ≡ (sound_direction_quantity quantity.0 && (idle || leb sold.0 quantity.0)) }
-{
-    (quantity.0 <= Engine::DIRECTION_LIMIT) & (idle | (sold.0 <= quantity.0))
-}
-
-// Whether both direction quantities are sound.
-fn sound_directions(book: Book) -> bool
-    requires path_count_bound { book.path_count ≤ path_limit }
-    requires book_value { every sold_within (paths_of book) ≡ true }
-    ensures { result ≡ sound_directions book }
-{
-    let stage = book.stage;
-    let paths = book.paths;
-    let quantities = book.directions;
-    let exports = quantities.exports;
-    let imports = quantities.imports;
-    let idle = book_parts::is_idle(stage);
-    let sold = book_parts::sold_by(paths, book.path_count);
-    let exports_sold = sold.exports;
-    let imports_sold = sold.imports;
-    sound_direction(exports, idle, exports_sold) & sound_direction(imports, idle, imports_sold)
-}
-
 // Whether a book is sound.
 pub fn sound_book(book: Book) -> bool
     ensures { result ≡ sound_book book }
@@ -161,12 +134,9 @@ pub fn sound_book(book: Book) -> bool
     let bidders = book.bidders;
     let account = book.account;
     let round = round_of(stage);
-    if !sound_paths(round, paths, count) {
-        return false;
-    }
     (book.entries <= Engine::ENTRIES)
         & sound_stage(stage)
+        & sound_paths(round, paths, count)
         & sound_bidders(round, bidders)
         & book_account::sound(account)
-        & sound_directions(book)
 }

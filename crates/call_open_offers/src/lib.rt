@@ -1,9 +1,9 @@
-// How many MW of a path an auction offers, and how many of a path and of a direction each of its rounds offers.
+// How many MW of a path an auction offers, and how many of them each of its rounds offers.
 ghost use Rattle.std.specs.Prelude.{◌≡◌, ◌-◌, min};
 ghost use Rattle.market.specs.Books.{megawatts};
-ghost use Rattle.call_open_offers.specs.Offers.{capability, long_offer, short_offer, auction_offer, round_share, round_offer, direction_offers};
+ghost use Rattle.call_open_offers.specs.Offers.{capability, long_offer, short_offer, auction_offer, long_offered, round_offer};
 
-use market::book::{Directions, Kind, Path};
+use market::book::{Kind, Path};
 use market::engine::Engine;
 use market::units::Megawatts;
 
@@ -75,43 +75,23 @@ pub fn offer(kind: Kind, of: Quantities, out: Megawatts) -> Megawatts
     }
 }
 
-fn long_share(round: u32, whole: Megawatts, sold: Megawatts) -> Megawatts
-    ensures { result ≡ megawatts (round_share Kind.Long round whole.0 sold.0) }
+fn long_offered(round: u32, path: Path) -> Megawatts
+    ensures { result ≡ megawatts (long_offered round path) }
 {
+    let offer = path.offer;
+    let sold = path.sold;
     if round == 1 {
-        return Megawatts(whole.0 / Engine::QUARTERS);
+        return Megawatts(offer.0 / Engine::QUARTERS);
     }
-    left(whole, sold)
-}
-
-// What a round offers of a quantity of the auction, of which rounds have sold `sold`.
-fn share(kind: Kind, round: u32, whole: Megawatts, sold: Megawatts) -> Megawatts
-    ensures { result ≡ megawatts (round_share kind round whole.0 sold.0) }
-{
-    match kind {
-        Kind::Short => whole,
-        Kind::Long => long_share(round, whole, sold),
-    }
+    left(offer, sold)
 }
 
 // What a round offers of a path.
 pub fn offered_in(kind: Kind, round: u32, path: Path) -> Megawatts
     ensures { result ≡ megawatts (round_offer kind round path) }
 {
-    let offer = path.offer;
-    let sold = path.sold;
-    share(kind, round, offer, sold)
-}
-
-// What a round offers of both directions, whose paths have sold `sold`.
-pub fn offered_along(kind: Kind, round: u32, whole: Directions, sold: Directions) -> Directions
-    ensures { result ≡ direction_offers kind round whole sold }
-{
-    let all_exports = whole.exports;
-    let all_imports = whole.imports;
-    let sold_exports = sold.exports;
-    let sold_imports = sold.imports;
-    let exports = share(kind, round, all_exports, sold_exports);
-    let imports = share(kind, round, all_imports, sold_imports);
-    Directions { exports, imports }
+    match kind {
+        Kind::Short => path.offer,
+        Kind::Long => long_offered(round, path),
+    }
 }

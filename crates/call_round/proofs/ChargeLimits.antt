@@ -18,13 +18,13 @@ use Rattle.round_bids.specs.declared.Lamination.{Lamination}
 use Rattle.round_admission.specs.Admission.{bidding_limits, admits, mark_of, used_after, marks_from}
 use Rattle.round_award_rules.proofs.BestAward.{charge-within, over-wins-none}
 use Rattle.round_award_rules.proofs.RoundClaims.{EachBid}
-use Rattle.round_award_rules.specs.Awards.{Award, Supply, awards_of, won_by, price_on, charge_of}
+use Rattle.round_award_rules.specs.Awards.{Award, awards_of, won_by, price_on, charge_of}
 use Rattle.round_award_rules.specs.Rivals.{filled_value}
 use Rattle.round_awards.proofs.TableLaws.{below_at, below_length}
 use Rattle.round_awards.specs.Tables.{below}
 use Rattle.round_charges.specs.Charges.{charge_at, charged_from, charges_of}
 use Rattle.call_round.proofs.RoundBounds.{no_bid}
-use Rattle.call_round.specs.Round.{supply_now, awards_now, won_now, prices_now}
+use Rattle.call_round.specs.Round.{offered_now, awards_now, won_now, prices_now}
 
 -- ---- Amounts by bidder
 
@@ -150,7 +150,7 @@ below-most n f i = go (leb n i) refl
     go true e = omega (arith, get_or-eq_default (below n f) 0 {n = i} (omega (arith, below_length n f, leb-true n i e)))
     go false e = omega (arith, below_at n f i (leb-false n i e))
 
-module _ (paths : ℕ) (offered : Supply) (bids : List Bid) (marks : List ℕ) (right : right_bids paths bids ≡ true) (n m : ℕ) where
+module _ (paths : ℕ) (offered : List ℕ) (bids : List Bid) (marks : List ℕ) (right : right_bids paths bids ≡ true) (n m : ℕ) where
   abbrev awards : List Award
   awards = awards_of offered bids marks
 
@@ -190,7 +190,7 @@ zeros-under (suc n) l (suc i) = omega (arith, zeros-under n [] i)
 
 pub charged-limits :
     (paths :
-    ℕ) (offered : Supply) (bids : List Bid) (limits : List ℕ) (right : right_bids paths bids ≡ true) (n m slots : ℕ) (i : ℕ)
+    ℕ) (offered : List ℕ) (bids : List Bid) (limits : List ℕ) (right : right_bids paths bids ≡ true) (n m slots : ℕ) (i : ℕ)
     → get_or
     (charged_from (below n (λ bid. won_by bid (awards_of offered bids (marks_from limits (replicate slots 0) bids))))
     (below m (λ path. price_on path (awards_of offered bids (marks_from limits (replicate slots 0) bids)))) (replicate slots 0) 0 bids)
@@ -209,4 +209,4 @@ charged-limits paths offered bids limits right n m slots =
 pub charges-within-limits : (b : Book) (bids : List Bid) → right_bids b.path_count bids ≡ true → (i : ℕ) → get_or (charges_of (won_now b bids) (prices_now b bids) bids) i 0 ≤ get_or (bidding_limits b) i 0
 unfolding awards_now
 charges-within-limits b bids right =
-    charged-limits b.path_count (supply_now b) bids (bidding_limits b) right bid_limit path_limit bidder_limit
+    charged-limits b.path_count (offered_now b) bids (bidding_limits b) right bid_limit path_limit bidder_limit

@@ -8,4 +8,3 @@ pub mod RoundEntries
 pub mod RoundLaws
 pub mod RoundLawful
 pub mod RoundPaths
-pub mod RoundDirections

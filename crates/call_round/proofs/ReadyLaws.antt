@@ -1,20 +1,14 @@
 -- What follows where nothing refuses a round before its awards.
-use mathlib.Core.Path.{◌≡◌, refl, ◌∙◌, ap, ap₂}
+use mathlib.Core.Path.{◌≡◌, ◌∙◌, ap, ap₂}
 use mathlib.Core.Bool.{true}
-use mathlib.Core.List.{List, [], ◌∷◌, map}
-use Prim.Native.Nat.{ℕ, ◌-◌, ◌≤◌}
-use lib.ListN.{length, get_or, replicate}
+use mathlib.Core.List.{List}
+use Prim.Native.Nat.{ℕ, ◌≤◌}
+use lib.ListN.{length, replicate}
 use Rattle.market.proofs.SoundLaws.{sound-parts, count-within}
-use Rattle.market.proofs.Every.{every_append, every_map, every-replicate}
 use Rattle.market.specs.Answers.{first_of}
-use Rattle.market.specs.Books.{every, paths_of, direction_number, way_of, in_directions}
 use Rattle.market.specs.Limits.{path_limit, bid_limit, bidder_limit, bid_list_words}
 use Rattle.market.specs.Sound.{sound_book}
 use Rattle.market.specs.declared.book.Book.{Book}
-use Rattle.market.specs.declared.book.Direction.{Direction}
-use Rattle.market.specs.declared.book.Direction.TheVariants.{Export, Import}
-use Rattle.market.specs.declared.book.Directions.{Directions}
-use Rattle.market.specs.declared.book.Path.{Path}
 use Rattle.round_bids.proofs.EncodingLaws.{bids-right}
 use Rattle.round_bids.proofs.Walk.{list-sound, bids-few}
 use Rattle.round_bids.specs.BidRefusals.{list_refusals, BidList}
@@ -22,10 +16,10 @@ use Rattle.round_bids.specs.Bids.{bids_of}
 use Rattle.round_bids.specs.Encoding.{right_bids}
 use Rattle.round_admission.proofs.MarkLaws.{marks-length}
 use Rattle.round_admission.specs.Admission.{bidding_limits}
-use Rattle.round_award_rules.specs.Awards.{Supply, supply_in, is_way, awards_of}
+use Rattle.round_award_rules.specs.Awards.{awards_of}
 use Rattle.call_round.specs.Padded.{padded}
 use Rattle.call_round.specs.Ready.{RightList, Early, WorkedOut, awards_from}
-use Rattle.call_round.specs.Round.{offered_now, supply_now, marks_now, awards_now}
+use Rattle.call_round.specs.Round.{offered_now, marks_now, awards_now}
 use Rattle.call_round.specs.declared.worked.Worked.{Worked}
 use Rattle.call_round.proofs.RoundLaws.{padded-at, padded-length, awards-same}
 
@@ -58,34 +52,12 @@ module _ (b : Book) (bid_words : List ℕ) (ok : sound_book b ≡ true) (list : 
         ∙ padded-length (marks_now b (bids_of bid_words)) (length (bids_of bid_words))
         (marks-length (bidding_limits b) (replicate bidder_limit 0) (bids_of bid_words)) few
 
-    -- what is worked out is what the round has
-    supply-is : supply_in w.offered ≡ supply_now b
-    supply-is =
-        ap (λ (l : List ℕ). record { paths = l; directions = in_directions w.offered.directions; way = λ path. get_or w.offered.ways path 0 }) out.offers
-        ∙ ap₂ (λ (q : Directions) (ways : List ℕ). record { paths = offered_now b; directions = in_directions q; way = λ path. get_or ways path 0 }) out.directions out.ways
-
-    -- and each path's direction is one of the two
-    pub ways-right : every is_way w.offered.ways ≡ true
-    ways-right =
-        ap (every is_way) out.ways
-        ∙ every_append is_way (map way_of (paths_of b)) (replicate (path_limit - b.path_count) 0)
-        (every_map way_of is_way (λ p. true) (λ p h. one p.direction) (paths_of b) (every_any (paths_of b)))
-        (every-replicate is_way (path_limit - b.path_count) 0 refl)
-      where
-        one : (d : Direction) → is_way (direction_number d) ≡ true
-        one Export = refl
-        one Import = refl
-
-        every_any : (l : List Path) → every (λ p. true) l ≡ true
-        every_any [] = refl
-        every_any (p ∷ l) = every_any l
-
     pub awards-are : awards_from w bid_words ≡ awards_now b (bids_of bid_words)
     unfolding awards_now
     awards-are =
-        ap₂ (λ (o : Supply) (m : List ℕ). awards_of o (bids_of bid_words) m) supply-is out.marks
+        ap₂ (λ (o m : List ℕ). awards_of o (bids_of bid_words) m) out.offers out.marks
         ∙ awards-same (padded (marks_now b (bids_of bid_words)) (length (bids_of bid_words))) (marks_now b (bids_of bid_words))
-        (padded-at (marks_now b (bids_of bid_words)) (length (bids_of bid_words))) (supply_now b) (bids_of bid_words)
+        (padded-at (marks_now b (bids_of bid_words)) (length (bids_of bid_words))) (offered_now b) (bids_of bid_words)
 
 module _ (b : Book) (words bid_words answers results scratch : List ℕ) (early : Early b words bid_words answers results scratch) where
   pub sound : sound_book b ≡ true

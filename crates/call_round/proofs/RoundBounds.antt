@@ -20,10 +20,10 @@ use Rattle.round_bids.specs.Encoding.{right_bids}
 use Rattle.round_award_rules.proofs.BestAward.{sold-within-offer, own_at, known, bid-below, on-path}
 use Rattle.round_award_rules.proofs.FillLaws.{won-sold}
 use Rattle.round_award_rules.proofs.Claims.{EachAward}
-use Rattle.round_award_rules.specs.Awards.{Award, Supply, awards_of, won_by, sold_on, price_on, lower}
+use Rattle.round_award_rules.specs.Awards.{Award, awards_of, won_by, sold_on, price_on, lower}
 use Rattle.round_awards.specs.Tables.{below}
 use Rattle.round_charges.specs.Charges.{sound_clearing_price}
-use Rattle.call_round.specs.Round.{offered_now, supply_now, marks_now, awards_now, won_now, sold_now, prices_now}
+use Rattle.call_round.specs.Round.{offered_now, marks_now, awards_now, won_now, sold_now, prices_now}
 
 -- ---- Tables
 
@@ -69,13 +69,13 @@ price-within path top (a ∷ awards) h =
 abbrev pub no_bid : Bid
 no_bid = record { bidder = 0; path = 0; stamp = 0; laminations = [] }
 
-module _ (paths : ℕ) (offered : Supply) (bids : List Bid) (marks : List ℕ) (right : right_bids paths bids ≡ true) where
-  pub sold-quantity : every sound_quantity offered.paths ≡ true → (path : ℕ) → sold_on path (awards_of offered bids marks) ≤ quantity_limit
+module _ (paths : ℕ) (offered : List ℕ) (bids : List Bid) (marks : List ℕ) (right : right_bids paths bids ≡ true) where
+  pub sold-quantity : every sound_quantity offered ≡ true → (path : ℕ) → sold_on path (awards_of offered bids marks) ≤ quantity_limit
   sold-quantity h path =
-      let some : get_or offered.paths path 0 ≤ quantity_limit = leb-true (get_or offered.paths path 0) quantity_limit (every-at-any sound_quantity offered.paths path 0 h refl) in
+      let some : get_or offered path 0 ≤ quantity_limit = leb-true (get_or offered path 0) quantity_limit (every-at-any sound_quantity offered path 0 h refl) in
       omega (arith, sold-within-offer paths offered bids marks right path, some)
 
-  pub won-quantity : every sound_quantity offered.paths ≡ true → (bid : ℕ) → won_by bid (awards_of offered bids marks) ≤ quantity_limit
+  pub won-quantity : every sound_quantity offered ≡ true → (bid : ℕ) → won_by bid (awards_of offered bids marks) ≤ quantity_limit
   won-quantity h bid = go (leb (length bids) bid) refl
     where
       go : (t : Bool) → leb (length bids) bid ≡ t → won_by bid (awards_of offered bids marks) ≤ quantity_limit
@@ -111,16 +111,16 @@ module _ (b : Book) (bids : List Bid) (sound : sound_book b ≡ true) (right : r
   unfolding awards_now
   won-quantities =
       every-below sound_quantity bid_limit (λ bid. won_by bid (awards_now b bids))
-      (λ bid. le-leb (won_by bid (awards_now b bids)) quantity_limit (won-quantity b.path_count (supply_now b) bids (marks_now b bids) right (offered-quantities b sound) bid))
+      (λ bid. le-leb (won_by bid (awards_now b bids)) quantity_limit (won-quantity b.path_count (offered_now b) bids (marks_now b bids) right (offered-quantities b sound) bid))
 
   pub sold-quantities : every sound_quantity (sold_now b bids) ≡ true
   unfolding awards_now
   sold-quantities =
       every-below sound_quantity path_limit (λ path. sold_on path (awards_now b bids))
-      (λ path. le-leb (sold_on path (awards_now b bids)) quantity_limit (sold-quantity b.path_count (supply_now b) bids (marks_now b bids) right (offered-quantities b sound) path))
+      (λ path. le-leb (sold_on path (awards_now b bids)) quantity_limit (sold-quantity b.path_count (offered_now b) bids (marks_now b bids) right (offered-quantities b sound) path))
 
   pub price-bounds : every sound_clearing_price (prices_now b bids) ≡ true
   unfolding awards_now
   price-bounds =
       every-below sound_clearing_price path_limit (λ path. price_on path (awards_now b bids))
-      (λ path. le-leb (price_on path (awards_now b bids)) price_limit (price-limit b.path_count (supply_now b) bids (marks_now b bids) right path))
+      (λ path. le-leb (price_on path (awards_now b bids)) price_limit (price-limit b.path_count (offered_now b) bids (marks_now b bids) right path))

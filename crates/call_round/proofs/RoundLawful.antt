@@ -30,13 +30,12 @@ use Rattle.call_rules.specs.State.{SoundState}
 use Rattle.call_rules.proofs.Sums.{held_more}
 use Rattle.call_rules.specs.Money.{held_by_all, cash_held}
 use Rattle.call_rules.specs.Rule.{Lists}
-use Rattle.call_round.specs.Round.{offered_now, supply_now, marks_now, awards_now, won_now, sold_now, prices_now, entries_now, room_refusals, book_after, round}
+use Rattle.call_round.specs.Round.{offered_now, marks_now, awards_now, won_now, sold_now, prices_now, entries_now, room_refusals, book_after, round}
 use Rattle.call_round.proofs.ChargeLimits.{below-most, charges-within-limits}
 use Rattle.call_round.proofs.Cleared.{list-numbers, lists-long, biddable}
 use Rattle.call_round.proofs.ReadyLaws.{bids-listed}
 use Rattle.call_round.proofs.RoundBidders.{billed-length, all-billed, billed-holds}
 use Rattle.call_round.proofs.RoundBounds.{won-quantities}
-use Rattle.call_round.proofs.RoundDirections.{directions-after}
 use Rattle.call_round.proofs.RoundEntries.{entries-sound}
 use Rattle.call_round.proofs.RoundPaths.{Stages, stages, paths-sold}
 
@@ -50,7 +49,7 @@ module _ (b : Book) (bids : List Bid) where
     unfolding awards_now
     sold-offered i =
         let table = below-most path_limit (λ path. sold_on path (awards_now b bids)) i in
-        let offer = sold-within-offer b.path_count (supply_now b) bids (marks_now b bids) right i in
+        let offer = sold-within-offer b.path_count (offered_now b) bids (marks_now b bids) right i in
         omega (arith, table, offer)
 
     -- no bidder is charged more than 2×10^13
@@ -77,7 +76,6 @@ module _ (b : Book) (bids : List Bid) where
                 paths = paths-sold b.stage b.paths (sold_now b bids) count (path_limit - count) s p.paths sold-offered;
                 bidders = all-billed b.stage b.bidders charges bidder_limit s state.bidders p.bidders (charges-within-top state.sound);
                 account = p.account;
-                directions = directions-after b bids state.sound right s;
               });
           entries =
               every_append (sound_entry count) es more state.entries

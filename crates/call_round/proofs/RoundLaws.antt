@@ -1,24 +1,26 @@
 -- Laws about a round's lists: numbers past the last bid change nothing, and the winners are as many as the new entries.
 use mathlib.Core.Path.{◌≡◌, refl, ◌∙◌, ap, ap₂}
-use mathlib.Core.Bool.{Bool, true, false, cond}
+use mathlib.Core.Bool.{Bool, true, false, cond, ◌&&◌}
 use mathlib.Core.List.{List, [], ◌∷◌, ◌++◌}
 use Prim.Native.Nat.{ℕ, zero, suc, ◌+◌, ◌*◌, ◌-◌, ◌≤◌}
 use native.Mathlib.Omega.{arith}
 use lib.Dec.{ltb}
 use lib.ListN.{length, get_or, replicate, length-append, length-replicate}
+use borrow.Author.Tests.{le-leb}
 use Rattle.market.proofs.Filled.{zeros-at}
-use Rattle.market.proofs.SoundLaws.{sound-parts}
-use Rattle.book_parts.proofs.SoldLaws.{paths-sold}
+use Rattle.market.proofs.SoundLaws.{sound-parts, path-bounds}
+use Rattle.market.proofs.Tests.{left-true, right-true}
 use Rattle.market.specs.Books.{every, paths_of}
-use Rattle.market.specs.Sound.{round_of, sold_within, sound_book}
+use Rattle.market.specs.Sound.{round_of, sound_path, sound_book}
 use Rattle.market.specs.declared.book.Bidder.{Bidder}
 use Rattle.market.specs.declared.book.Book.{Book}
 use Rattle.market.specs.declared.book.Stage.{Stage}
 use Rattle.market.specs.declared.book.Path.{Path}
-use Rattle.market.specs.Limits.{header_words, pair_words, bid_limit}
+use Rattle.round_paths.specs.PathSales.{sold_within}
+use Rattle.market.specs.Limits.{quantity_limit, header_words, pair_words, bid_limit}
 use Rattle.market.specs.declared.book.Period.{Period}
 use Rattle.round_bids.specs.Bids.{Bid, bid_value}
-use Rattle.round_award_rules.specs.Awards.{Claim, claims_of_bid, claims_from, in_order, Supply, walk, awards_of}
+use Rattle.round_award_rules.specs.Awards.{Claim, claims_of_bid, claims_from, in_order, walk, awards_of}
 use Rattle.round_charges.specs.Charges.{charge_at, bid_rows_from}
 use Rattle.round_entries.specs.Entries.{if_won, entry_of, entries_from, new_entries, winners_in}
 use Rattle.call_round.specs.Padded.{padded}
@@ -46,7 +48,7 @@ module _ (ms ns : List ℕ) (same : (k : ℕ) → get_or ms k 0 ≡ get_or ns k 
       ap₂ (λ (mark : ℕ) (rest : List Claim). claims_of_bid bid at b mark ++ rest) (same bid)
       (claims-same (bid + 1) (at + header_words + length b.laminations * pair_words) bs)
 
-  pub awards-same : (offered : Supply) (bids : List Bid) → awards_of offered bids ms ≡ awards_of offered bids ns
+  pub awards-same : (offered : List ℕ) (bids : List Bid) → awards_of offered bids ms ≡ awards_of offered bids ns
   unfolding awards_of
   awards-same offered bids = ap (λ (claims : List Claim). walk offered (in_order claims)) (claims-same 0 0 bids)
 
@@ -75,6 +77,16 @@ winners-are period won bids =
     omega (arith, e, entries-are period won 0 bids)
 
 -- in a sound book no path has sold more than 9,999 MW, the limit of a quantity
+path-sold : (round : ℕ) (x : Path) → sound_path round x ≡ true → sold_within x ≡ true
+path-sold round x h =
+    le-leb x.sold.0 quantity_limit (omega (arith, (path-bounds round x h).sold, (path-bounds round x h).offer))
+
+paths-sold : (round : ℕ) (l : List Path) → every (sound_path round) l ≡ true → every sold_within l ≡ true
+paths-sold round [] h = refl
+paths-sold round (x ∷ l) h =
+    ap₂ ◌&&◌ (path-sold round x (left-true (sound_path round x) (every (sound_path round) l) h))
+    (paths-sold round l (right-true (sound_path round x) (every (sound_path round) l) h))
+
 pub sold-sound : (b : Book) → sound_book b ≡ true → every sold_within (paths_of b) ≡ true
 sold-sound b h = paths-sold (round_of b.stage) (paths_of b) (sound-parts b h).paths
 
@@ -88,7 +100,6 @@ made b slots bidders entries stage =
       account = b.account;
       entries = entries;
       stage = stage;
-      directions = b.directions;
     }
 
 pub made-same : (b : Book) (n : ℕ) {p q : List Path} {x y : List Bidder} {s t : Stage} → p ≡ q → x ≡ y → s ≡ t → made b p x n s ≡ made b q y n t

@@ -34,7 +34,6 @@ pub record Stages (stage : Stage) : Type 0 where
   pub after : sound_stage (stage_after stage) ≡ true
   pub not-one : eqb (round_of (stage_after stage)) 1 ≡ false
   pub one-first : eqb (round_of (stage_after stage)) 2 ≡ true → round_of stage ≡ 1
-  pub goes_on : is_idle (stage_after stage) ≡ false → (kind_of stage ≡ Long) × (round_of stage ≡ 1)
 
 pub stages : (stage : Stage) → is_idle stage ≡ false → sound_stage stage ≡ true → Stages stage
 stages Idle idle h = absurd (false≢true (sym idle))
@@ -45,7 +44,6 @@ stages (Open Short round period) idle h =
       after = refl;
       not-one = refl;
       one-first = λ e. absurd (false≢true e);
-      goes_on = λ e. absurd (false≢true (sym e));
     }
 stages (Open Long round period) idle h =
     record {
@@ -54,7 +52,6 @@ stages (Open Long round period) idle h =
       after = after (eqb round 1);
       not-one = not-one (eqb round 1);
       one-first = first (eqb round 1) refl;
-      goes_on = on (eqb round 1) refl;
     }
   where
     days : sound_period period ≡ true
@@ -72,13 +69,9 @@ stages (Open Long round period) idle h =
     first true e two = eqb-true round 1 e
     first false e two = absurd (false≢true two)
 
-    on : (t : Bool) → eqb round 1 ≡ t → is_idle (cond t (Open Long 2 period) Idle) ≡ false → (Long ≡ Long) × (round ≡ 1)
-    on true e open = (refl, eqb-true round 1 e)
-    on false e open = absurd (false≢true (sym open))
-
 -- ---- A path
 
-pub none_yet : (round : ℕ) (p : Path) → round ≡ 1 → PathBounds round p → p.sold.0 ≡ 0
+none_yet : (round : ℕ) (p : Path) → round ≡ 1 → PathBounds round p → p.sold.0 ≡ 0
 none_yet round p one h =
     eqb-true p.sold.0 0
     (ap (λ (n : ℕ). eqb n 1 implies eqb p.sold.0 0) (sym one) ∙ h.start)
@@ -107,7 +100,7 @@ path-sells kind round next p more sound not-one h most =
 -- ---- All paths
 
 -- what is offered of the path with a number
-pub offered-at : {A : Type 0} (f : A → ℕ) (l : List A) (m : ℕ) (d : A) (k : ℕ) → f d ≡ 0 → get_or (map f l ++ replicate m 0) k 0 ≡ f (get_or l k d)
+offered-at : {A : Type 0} (f : A → ℕ) (l : List A) (m : ℕ) (d : A) (k : ℕ) → f d ≡ 0 → get_or (map f l ++ replicate m 0) k 0 ≡ f (get_or l k d)
 offered-at f [] m d k none = zeros-at m k ∙ sym none
 offered-at f (x ∷ l) m d zero none = refl
 offered-at f (x ∷ l) m d (suc k) none = offered-at f l m d k none

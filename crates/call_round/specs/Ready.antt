@@ -5,15 +5,14 @@ use Rattle.market.specs.Books.{in_cents, in_megawatts}
 use Rattle.market.specs.Limits.{bid_list_words, bid_answer_words, path_answer_words, scratch_words}
 use Rattle.market.specs.Sound.{is_idle}
 use Rattle.market.specs.declared.book.Book.{Book}
-use Rattle.round_award_rules.specs.Awards.{Award, supply_in, awards_of}
+use Rattle.round_award_rules.specs.Awards.{Award, awards_of}
 use Rattle.round_awards.specs.Tables.{won_table, sold_table, price_table}
 use Rattle.round_awards.specs.declared.Awarded.{Awarded}
 use Rattle.round_bids.specs.Bids.{bids_of}
 use Rattle.round_bids.specs.BidRefusals.{list_refusals}
 use Rattle.register.specs.Refusals.{LentRegister}
-use Rattle.round_paths.specs.PathSales.{ways_by}
 use Rattle.call_round.specs.Padded.{padded}
-use Rattle.call_round.specs.Round.{offered_now, directions_now, marks_now}
+use Rattle.call_round.specs.Round.{offered_now, marks_now}
 use Rattle.call_round.specs.declared.worked.Worked.{Worked}
 
 -- what is lent is long enough, and the register is lent whole and sound
@@ -38,13 +37,11 @@ pub record Early (b : Book) (words bid_words answers results scratch : List ℕ)
 pub record WorkedOut (b : Book) (bid_words : List ℕ) (w : Worked) : Type 0 where
   pub marks : w.marks ≡ padded (marks_now b (bids_of bid_words)) (length (bids_of bid_words))
   pub count : w.bids ≡ length (bids_of bid_words)
-  pub offers : in_megawatts w.offered.paths ≡ offered_now b
-  pub directions : w.offered.directions ≡ directions_now b
-  pub ways : w.offered.ways ≡ ways_by b
+  pub offers : in_megawatts w.offered ≡ offered_now b
 
 -- the awards are worked out, from these marks and offers
 abbrev pub awards_from : Worked → List ℕ → List Award
-awards_from w bid_words = awards_of (supply_in w.offered) (bids_of bid_words) w.marks
+awards_from w bid_words = awards_of (in_megawatts w.offered) (bids_of bid_words) w.marks
 
 pub record AwardedOut (w : Worked) (bid_words : List ℕ) (a : Awarded) : Type 0 where
   pub won : in_megawatts a.won ≡ won_table (awards_from w bid_words)

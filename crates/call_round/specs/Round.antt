@@ -1,26 +1,24 @@
 -- The round, from the book, its entries and the words of the bid list: rules 7.12 to 7.19, with what the other crates state of it.
-use Rattle.std.specs.Prelude.{true, not, List, [], ◌∷◌, ◌++◌, ℕ, ◌+◌, leb, length, get_or}
+use Rattle.std.specs.Prelude.{true, not, List, [], ◌∷◌, ◌++◌, ℕ, ◌+◌, leb, length}
 use Rattle.market.specs.Answers.{Row, ◌gives◌}
-use Rattle.market.specs.Books.{in_directions}
 use Rattle.market.specs.Limits.{entry_limit, bid_list_words, bid_answer_words, path_answer_words, scratch_words}
 use Rattle.market.specs.Sound.{is_idle, round_of, kind_of, period_of}
 use Rattle.market.specs.declared.answer.Answer.TheVariants.{Bids}
 use Rattle.market.specs.declared.answer.Outcome.{Outcome}
 use Rattle.market.specs.declared.book.Book.{Book}
-use Rattle.market.specs.declared.book.Directions.{Directions}
 use Rattle.market.specs.declared.book.Entry.{Entry}
 use Rattle.register.specs.Refusals.{register_refusals}
 use Rattle.round_bids.specs.Bids.{Bid, bids_of}
 use Rattle.round_bids.specs.BidRefusals.{list_refusals}
 use Rattle.round_admission.specs.Admission.{bidding_limits, marks_of}
-use Rattle.round_award_rules.specs.Awards.{Award, Supply, awards_of}
+use Rattle.round_award_rules.specs.Awards.{Award, awards_of}
 use Rattle.round_awards.specs.Tables.{won_table, sold_table, price_table}
 use Rattle.round_charges.specs.Charges.{charges_of, bid_rows}
 use Rattle.round_entries.specs.Entries.{new_entries}
 use Rattle.round_paths.specs.PathRows.{path_rows}
 use Rattle.round_bidders.specs.Bidders.{billed_all}
 use Rattle.round_paths.specs.Stages.{stage_after}
-use Rattle.round_paths.specs.PathSales.{offered_by, directions_by, ways_by, sold_to}
+use Rattle.round_paths.specs.PathSales.{offered_by, sold_to}
 use Rattle.call_rules.specs.Money.{nothing}
 use Rattle.call_rules.specs.Rule.{Rule}
 use Rattle.call_rules.specs.Rule.Register.{changed}
@@ -32,26 +30,13 @@ use Rattle.call_rules.specs.Rule.Front.{kept, put}
 abbrev pub offered_now : Book → List ℕ
 offered_now b = offered_by (kind_of b.stage) (round_of b.stage) b
 
--- rule 6.8: what it offers of both directions
-abbrev pub directions_now : Book → Directions
-directions_now b = directions_by (kind_of b.stage) (round_of b.stage) b
-
--- rules 2.8, 6.7 and 6.8: what the round has for its laminations
-abbrev pub supply_now : Book → Supply
-supply_now b =
-    record {
-      paths = offered_now b;
-      directions = in_directions (directions_now b);
-      way = λ path. get_or (ways_by b) path 0;
-    }
-
 -- rule 7.7: which bids are admitted, and which are over
 abbrev pub marks_now : Book → List Bid → List ℕ
 marks_now b bids = marks_of (bidding_limits b) bids
 
 -- rules 7.8 and 7.9: what the laminations of the admitted bids take
 unfoldable pub awards_now : Book → List Bid → List Award
-awards_now b bids = awards_of (supply_now b) bids (marks_now b bids)
+awards_now b bids = awards_of (offered_now b) bids (marks_now b bids)
 
 -- rules 7.9 and 7.10: the MW of each bid, and the MW sold and the clearing price of each path
 abbrev pub won_now : Book → List Bid → List ℕ
@@ -107,8 +92,7 @@ early_refusals b words bid_words answers results scratch =
 
 -- ---- The round
 
--- rules 7.13, 7.15 and 7.16: the book after a round with these MW won, MW sold and clearing prices, and `entries` entries; the account and
--- the direction quantities stay
+-- rules 7.13, 7.15 and 7.16: the book after a round with these MW won, MW sold and clearing prices, and `entries` entries; the account stays
 abbrev pub book_with : Book → List ℕ → List ℕ → List ℕ → List Bid → ℕ → Book
 book_with b won sold prices bids entries =
     record {
@@ -118,7 +102,6 @@ book_with b won sold prices bids entries =
       account = b.account;
       entries = entries;
       stage = stage_after b.stage;
-      directions = b.directions;
     }
 
 -- rules 7.12 and 7.16: the book after the round

@@ -33,7 +33,6 @@ pub fn book_with(book: Book, bids: &[u32], awarded: Awarded, entries: usize) -> 
     let paths = book.paths;
     let account = book.account;
     let stage = book.stage;
-    let directions = book.directions;
     let charges = round_charges::charges_of(bids, won, prices);
     let billed = round_bidders::bill_all(bidders, charges);
     let slots = round_paths::sold_of(paths, sold, book.path_count);
@@ -45,7 +44,6 @@ pub fn book_with(book: Book, bids: &[u32], awarded: Awarded, entries: usize) -> 
         account,
         entries,
         stage: next,
-        directions,
     }
 }
 
@@ -69,12 +67,11 @@ pub fn write_answers(
         ≡ with_front (bid_rows worked.marks (in_megawatts awarded.won) (in_cents awarded.prices) (bids_of bids.now))
         answers.old }
     ensures paths { results.new
-        ≡ with_front (path_rows (in_megawatts worked.offered.paths) (in_megawatts awarded.sold) (in_cents awarded.prices) paths)
+        ≡ with_front (path_rows (in_megawatts worked.offered) (in_megawatts awarded.sold) (in_cents awarded.prices) paths)
         results.old }
 {
     let marks = worked.marks;
-    let all = worked.offered;
-    let offered = all.paths;
+    let offered = worked.offered;
     let won = awarded.won;
     let sold = awarded.sold;
     let prices = awarded.prices;

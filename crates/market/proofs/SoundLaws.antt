@@ -10,7 +10,7 @@ use Rattle.market.proofs.Every.{both_true, every-at-any}
 use Rattle.market.proofs.Tests.{left-true, right-true}
 use Rattle.market.specs.Books.{every, ◌implies◌, paths_of, no_path, no_bidder, bidder_of, no_value, held_of}
 use Rattle.market.specs.Limits.{path_limit, zone_limit, quantity_limit, entry_limit, round_two_owed_limit, money_limit, owed_limit, step_limit}
-use Rattle.market.specs.Sound.{sound_path_count, sound_stage, round_of, sound_path, sound_bidder, sound_account, sound_directions, sound_book, BidderBounds}
+use Rattle.market.specs.Sound.{sound_path_count, sound_stage, round_of, sound_path, sound_bidder, sound_account, sound_book, BidderBounds}
 use Rattle.market.specs.declared.book.Bidder.{Bidder}
 use Rattle.market.specs.declared.book.Book.{Book}
 use Rattle.market.specs.declared.book.Path.{Path}
@@ -26,7 +26,6 @@ pub record SoundParts (b : Book) : Type 0 where
   pub paths : every (sound_path (round_of b.stage)) (paths_of b) ≡ true
   pub bidders : every (sound_bidder (round_of b.stage)) b.bidders ≡ true
   pub account : sound_account b.account.0 ≡ true
-  pub directions : sound_directions b ≡ true
 
 pub sound-parts : (b : Book) → sound_book b ≡ true → SoundParts b
 unfolding sound_book
@@ -38,9 +37,7 @@ sound-parts b h =
     let paths = every (sound_path ways) (paths_of b) in
     let bidders = every (sound_bidder ways) b.bidders in
     let account = sound_account b.account.0 in
-    let directions = sound_directions b in
-    let h₆ = left-true (count && entries && stage && paths && bidders && account) directions h in
-    let h₅ = left-true (count && entries && stage && paths && bidders) account h₆ in
+    let h₅ = left-true (count && entries && stage && paths && bidders) account h in
     let h₄ = left-true (count && entries && stage && paths) bidders h₅ in
     let h₃ = left-true (count && entries && stage) paths h₄ in
     let h₂ = left-true (count && entries) stage h₃ in
@@ -50,8 +47,7 @@ sound-parts b h =
       stage = right-true (count && entries) stage h₃;
       paths = right-true (count && entries && stage) paths h₄;
       bidders = right-true (count && entries && stage && paths) bidders h₅;
-      account = right-true (count && entries && stage && paths && bidders) account h₆;
-      directions = right-true (count && entries && stage && paths && bidders && account) directions h;
+      account = right-true (count && entries && stage && paths && bidders) account h;
     }
 
 pub sound-made : (b : Book) → SoundParts b → sound_book b ≡ true
@@ -59,11 +55,9 @@ unfolding sound_book
 sound-made b p =
     both_true
     (both_true
-    (both_true
     (both_true (both_true (both_true p.path-count (le-leb b.entries entry_limit p.entries)) p.stage) p.paths)
     p.bidders)
-    p.account)
-    p.directions
+    p.account
 
 -- what the round asks of a bidder
 pub record AtRound (round : ℕ) (x : Bidder) : Type 0 where

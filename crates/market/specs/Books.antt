@@ -1,10 +1,8 @@
--- The parts of a book, and a book with one of them replaced: rule 1.1 and rules 2.1 to 2.5 and 2.8. The types are those that `src/` declares.
-use Rattle.std.specs.Prelude.{Bool, true, not, cond, ◌&&◌, ◌||◌, List, [], ◌∷◌, ◌++◌, map, ℕ, ◌+◌, eqb, ℤ, length, take, drop, get_or, set}
+-- The parts of a book, and a book with one of them replaced: rule 1.1 and rules 2.1 to 2.5. The types are those that `src/` declares.
+use Rattle.std.specs.Prelude.{Bool, true, not, ◌&&◌, ◌||◌, List, [], ◌∷◌, ◌++◌, map, ℕ, ◌+◌, eqb, ℤ, length, take, drop, get_or, set}
 use Rattle.market.specs.declared.book.Bidder.{Bidder}
 use Rattle.market.specs.declared.book.Book.{Book}
-use Rattle.market.specs.declared.book.Direction.{Direction}
-use Rattle.market.specs.declared.book.Direction.TheVariants.{Export, Import}
-use Rattle.market.specs.declared.book.Directions.{Directions}
+use Rattle.market.specs.declared.book.Direction.TheVariants.{Export}
 use Rattle.market.specs.declared.book.Path.{Path}
 use Rattle.market.specs.declared.book.Route.{Route}
 use Rattle.market.specs.declared.book.Stage.{Stage}
@@ -67,32 +65,6 @@ no_path = record { direction = Export; zone = 0; offer = megawatts 0; sold = meg
 abbrev pub no_route : Route
 no_route = record { direction = Export; zone = 0 }
 
--- rule 2.8: the number of a direction, by which lists with one number for each direction have it: X first, then M
-abbrev pub direction_number : Direction → ℕ
-direction_number Export = 0
-direction_number Import = 1
-
--- rules 2.2 and 2.8: the number of a path's direction
-abbrev pub way_of : Path → ℕ
-way_of p = direction_number p.direction
-
--- the MW of both directions as a list
-abbrev pub in_directions : Directions → List ℕ
-in_directions q = q.exports.0 ∷ q.imports.0 ∷ []
-
--- rule 2.8: the direction quantity of a direction: the most MW of all its paths together
-abbrev pub quantity_of : Book → ℕ → ℕ
-quantity_of b d = get_or (in_directions b.directions) d 0
-
--- rule 2.8: the MW that the auction has sold on the paths of a direction
-abbrev pub sold_across : ℕ → List Path → ℕ
-sold_across d [] = 0
-sold_across d (p ∷ ps) = cond (eqb (way_of p) d) p.sold.0 0 + sold_across d ps
-
--- rule 2.8: the same of both directions
-abbrev pub sold_by : List Path → Directions
-sold_by ps = record { exports = megawatts (sold_across 0 ps); imports = megawatts (sold_across 1 ps) }
-
 -- rules 2.3 and 2.7: a bidder has six numbers, and all are 0 in a fresh book
 abbrev pub no_bidder : Bidder
 no_bidder = record { cash = cents 0; applied = cents 0; letter = cents 0; hold = cents 0; owed = cents 0; step = 0 }
@@ -136,7 +108,6 @@ with_bidder b i x =
       account = b.account;
       entries = b.entries;
       stage = b.stage;
-      directions = b.directions;
     }
 
 -- rule 3.2: a book with its number of entries replaced
@@ -149,7 +120,6 @@ with_entries b n =
       account = b.account;
       entries = n;
       stage = b.stage;
-      directions = b.directions;
     }
 
 -- rule 2.5: a book with its account replaced, which is one amount with a sign
@@ -162,12 +132,11 @@ with_account b z =
       account = balance z;
       entries = b.entries;
       stage = b.stage;
-      directions = b.directions;
     }
 
--- a book with the auction's part replaced: its paths, its stage and its direction quantities
-abbrev pub with_auction : Book → List Path → Stage → Directions → Book
-with_auction b slots stage directions =
+-- a book with the auction's part replaced: its paths and its stage
+abbrev pub with_auction : Book → List Path → Stage → Book
+with_auction b slots stage =
     record {
       paths = slots;
       path_count = b.path_count;
@@ -175,5 +144,4 @@ with_auction b slots stage directions =
       account = b.account;
       entries = b.entries;
       stage = stage;
-      directions = directions;
     }

@@ -39,7 +39,6 @@ book_of slots n =
       account = balance (pos 0);
       entries = 0;
       stage = Idle;
-      directions = record { exports = megawatts 0; imports = megawatts 0 };
     }
 
 -- rule 2.7: the book that is made of a direction and a zone for each path

@@ -4,10 +4,10 @@ use Rattle.std.specs.Prelude.{List, [], ◌∷◌, ℕ, ◌+◌, ◌*◌, ◌^�
 
 -- rule 1.6: the release of the engine, and the edition of its rules
 abbrev pub release : ℕ
-release = 2
+release = 1
 
 abbrev pub rule_edition : ℕ
-rule_edition = 2
+rule_edition = 1
 
 -- ---- The book and the register
 
@@ -64,10 +64,6 @@ account_limit = 10 ^ 15
 -- rules 4.4, 4.8, 6.2 and 7.2: the most MW of an offer, of an entry, of a quantity that open takes, and of a pair of a bid
 abbrev pub quantity_limit : ℕ
 quantity_limit = 9999
-
--- rules 4.9, 6.2 and 13.50: the most MW of a direction quantity, which is as many as all paths can offer together
-abbrev pub direction_limit : ℕ
-direction_limit = path_limit * quantity_limit
 
 -- rules 1.2 and 4.2: the highest day number
 abbrev pub day_limit : ℕ

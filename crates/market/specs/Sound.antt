@@ -1,9 +1,9 @@
--- What is sound, part by part, and a sound book: rules 4.1 to 4.7 and 4.9; and what a stage says: rule 2.6.
+-- What is sound, part by part, and a sound book: rules 4.1 to 4.7; and what a stage says: rule 2.6.
 use Rattle.std.specs.Prelude.{Bool, true, false, ◌&&◌, ◌||◌, List, ℕ, ◌≤◌, leb, eqb, ℤ, pos, neg_ℤ, get_or}
 use Rattle.std.specs.Int.Signed.{le_z}
-use Rattle.market.specs.Books.{every, ◌implies◌, day_number, paths_of, quantity_of, sold_across, no_bidder, no_value, held_of}
+use Rattle.market.specs.Books.{every, ◌implies◌, day_number, paths_of, no_bidder, no_value, held_of}
 use Rattle.market.specs.Limits.{path_limit, zone_limit, entry_limit, round_two_owed_limit, money_limit, owed_limit, step_limit}
-use Rattle.market.specs.Limits.{account_limit, quantity_limit, direction_limit, day_limit}
+use Rattle.market.specs.Limits.{account_limit, quantity_limit, day_limit}
 use Rattle.market.specs.declared.book.Bidder.{Bidder}
 use Rattle.market.specs.declared.book.Book.{Book}
 use Rattle.market.specs.declared.book.Kind.{Kind}
@@ -69,32 +69,15 @@ sound_bidder round x =
     && leb x.owed.0 owed_limit
     && leb x.step step_limit
 
--- rules 6.2 and 13.25: a quantity of MW that open takes for a path
+-- rules 6.2 and 13.25: a quantity of MW that open takes
 abbrev pub sound_quantity : ℕ → Bool
 sound_quantity n = leb n quantity_limit
-
--- in a sound book no path has sold more than such a quantity
-abbrev pub sold_within : Path → Bool
-sold_within p = sound_quantity p.sold.0
-
--- rules 4.9, 6.2 and 13.50: a direction quantity within its limit
-abbrev pub sound_direction_quantity : ℕ → Bool
-sound_direction_quantity n = leb n direction_limit
-
--- rule 4.9: a direction quantity is within its limit, and an open auction has not sold more on the direction's paths
-abbrev pub sound_direction : Book → ℕ → Bool
-sound_direction b d =
-    sound_direction_quantity (quantity_of b d) && (is_idle b.stage || leb (sold_across d (paths_of b)) (quantity_of b d))
-
--- rule 4.9: both direction quantities are sound, that of X and that of M
-abbrev pub sound_directions : Book → Bool
-sound_directions b = sound_direction b 0 && sound_direction b 1
 
 -- rules 4.7 and 13.31: an account within its limits
 abbrev pub sound_account : ℤ → Bool
 sound_account z = le_z (neg_ℤ (pos account_limit)) z && le_z z (pos account_limit)
 
--- rules 4.1 to 4.7 and 4.9: a sound book; the entries that it counts are the register's, rule 4.8
+-- rules 4.1 to 4.7: a sound book; the entries that it counts are the register's, rule 4.8
 unfoldable pub sound_book : Book → Bool
 sound_book b =
     sound_path_count b.path_count
@@ -103,7 +86,6 @@ sound_book b =
     && every (sound_path (round_of b.stage)) (paths_of b)
     && every (sound_bidder (round_of b.stage)) b.bidders
     && sound_account b.account.0
-    && sound_directions b
 
 -- rule 4.5: what holds of a sound bidder at any round, as functions that work on one ask for it
 pub record BidderBounds (x : Bidder) : Type 0 where

@@ -42,8 +42,6 @@ impl Refusal {
     pub const NOTHING_DUE: u32 = 24;
 
     pub const QUANTITY: u32 = 25;
-
-    pub const DIRECTION: u32 = 50;
     // Caused by settlement.
     pub const ZONE_PRICE: u32 = 30;
 

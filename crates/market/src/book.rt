@@ -64,15 +64,7 @@ pub struct Bidder {
     pub step: u32,
 }
 
-// MW by direction: of all X paths together, and of all M paths together.
-#[derive(Drop)]
-pub struct Directions {
-    pub exports: Megawatts,
-    pub imports: Megawatts,
-}
-
-// The book. Of `paths` the first `path_count` are the book's; `entries` is the register's count; `directions` has the direction
-// quantities (rule 2.8).
+// The book. Of `paths` the first `path_count` are the book's; `entries` is the register's count.
 #[derive(Drop)]
 pub struct Book {
     pub paths: [Path; Engine::PATHS],
@@ -81,7 +73,6 @@ pub struct Book {
     pub account: Balance,
     pub entries: usize,
     pub stage: Stage,
-    pub directions: Directions,
 }
 
 // One entry of the register: a bidder's right on a path. `state` is Engine::PENDING or Engine::ISSUED; lent words

@@ -10,9 +10,9 @@ use crate::fresh;
 pub struct Engine {}
 
 impl Engine {
-    pub const RELEASE: u32 = 2;
+    pub const RELEASE: u32 = 1;
 
-    pub const RULES: u32 = 2;
+    pub const RULES: u32 = 1;
 
     // The book.
     pub const PATHS: usize = 16;
@@ -34,8 +34,6 @@ impl Engine {
     pub const ACCOUNT_FLOOR: i64 = -Engine::ACCOUNT_LIMIT;
 
     pub const QUANTITY_LIMIT: u32 = 9_999;
-
-    pub const DIRECTION_LIMIT: u32 = 159_984;
 
     pub const DAY_LIMIT: u32 = 65_535;
 

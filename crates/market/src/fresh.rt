@@ -7,7 +7,7 @@ ghost use Rattle.market.specs.Limits.{path_limit};
 
 use crate::answer::Refusal;
 use crate::book;
-use crate::book::{Bidder, Book, Direction, Directions, Path, Route};
+use crate::book::{Bidder, Book, Direction, Path, Route};
 use crate::engine::Engine;
 use crate::units::{Balance, Cents, Megawatts};
 
@@ -92,10 +92,6 @@ pub fn book_of(paths: [Path; Engine::PATHS], count: usize) -> Book
     ensures { result ≡ book_of paths count }
 {
     let bidders = [no_bidder(); Engine::BIDDERS];
-    let directions = Directions {
-        exports: Megawatts(0),
-        imports: Megawatts(0),
-    };
     Book {
         paths,
         path_count: count,
@@ -103,6 +99,5 @@ pub fn book_of(paths: [Path; Engine::PATHS], count: usize) -> Book
         account: Balance(0),
         entries: 0,
         stage: Engine::idle(),
-        directions,
     }
 }

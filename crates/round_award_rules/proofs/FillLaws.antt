@@ -4,17 +4,17 @@ use mathlib.Core.Bool.{Bool, true, false, cond}
 use mathlib.Core.List.{List, [], ◌∷◌}
 use Prim.Native.Nat.{ℕ, ◌+◌, ◌*◌, ◌-◌, ◌≤◌, min}
 use native.Mathlib.Omega.{arith}
-use native.Mathlib.Nat.{zero-add, mul-zero}
+use native.Mathlib.Nat.{mul-zero}
 use lib.Dec.{eqb}
 use lib.ListN.{get_or}
 use borrow.Author.Tests.{eq-eqb, eqb-true}
 use Rattle.round_bids.specs.declared.Lamination.{Lamination}
 use Rattle.market.specs.Limits.{pair_words}
-use Rattle.round_award_rules.specs.Awards.{Claim, Award, claims_in, Supply, taken_of, left_after, walk, sum_of, won_by, sold_on}
+use Rattle.round_award_rules.specs.Awards.{Claim, Award, claims_in, taken_of, left_after, walk, sum_of, won_by, sold_on}
 use Rattle.round_award_rules.specs.Rivals.{Each, filled_value}
 use Rattle.round_award_rules.proofs.Claims.{EachAward}
 use Rattle.round_award_rules.proofs.LeftLaws.{less-there}
-use Rattle.round_award_rules.proofs.WalkLaws.{path-within, way-within, sold-along, each-walk}
+use Rattle.round_award_rules.proofs.WalkLaws.{sold-within, each-walk}
 use Rattle.round_award_rules.proofs.PriceLaws.{won_value}
 use Rattle.round_award_rules.proofs.BidClaims.{of_bid}
 
@@ -31,14 +31,14 @@ won-sold bid path (a ∷ awards) on =
     one false e = omega arith
 
 -- and is at most the MW of its laminations
-pub won-within : (bid : ℕ) (s : Supply) (claims : List Claim) → won_by bid (walk s claims) ≤ sum_of (λ (l : Claim). l.quantity) (of_bid bid claims)
-won-within bid s [] = omega arith
-won-within bid s (l ∷ ls) = go (eqb l.bid bid) (won-within bid (left_after s l) ls)
+pub won-within : (bid : ℕ) (left : List ℕ) (claims : List Claim) → won_by bid (walk left claims) ≤ sum_of (λ (l : Claim). l.quantity) (of_bid bid claims)
+won-within bid left [] = omega arith
+won-within bid left (l ∷ ls) = go (eqb l.bid bid) (won-within bid (left_after left l) ls)
   where
     go :
         (t :
-        Bool) {won : ℕ} → won ≤ sum_of (λ (m : Claim). m.quantity) (of_bid bid ls)
-        → cond t (taken_of s l) 0 + won ≤ sum_of (λ (m : Claim). m.quantity) (cond t (l ∷ of_bid bid ls) (of_bid bid ls))
+        Bool) → won_by bid (walk (left_after left l) ls) ≤ sum_of (λ (m : Claim). m.quantity) (of_bid bid ls)
+        → cond t (taken_of left l) 0 + won_by bid (walk (left_after left l) ls) ≤ sum_of (λ (m : Claim). m.quantity) (cond t (l ∷ of_bid bid ls) (of_bid bid ls))
     go true h = omega arith
     go false h = omega arith
 
@@ -65,49 +65,38 @@ filled_none won (l ∷ ls) h =
       filled_none (won - min l.quantity.0 won) ls (omega arith),
     )
 
--- a claim takes what it can of some room, and its bid's later claims together at most what it leaves: then filling begins with what it took
-fill-next :
-    (l : Claim) (ls : List Claim) (room won : ℕ) → won ≤ room - min l.quantity room
-    → l.price * min l.quantity room + filled_claims won ls ≡ filled_claims (min l.quantity room + won) (l ∷ ls)
-fill-next l ls room won within =
-    let first : min l.quantity room ≡ min l.quantity (min l.quantity room + won) = omega arith in
-    let rest : won ≡ min l.quantity room + won - min l.quantity (min l.quantity room + won) = omega arith in
-    ap₂ (λ (x y : ℕ). l.price * x + filled_claims y ls) first rest
-
--- What a bid won, claim by claim, is what filling its claims in order gives: a claim that takes less than its MW leaves nothing of its path or
--- nothing along its direction, so the bid's later claims, which are on the same path, take nothing.
+-- What a bid won, claim by claim, is what filling its claims in order gives: a claim that takes less than its MW leaves nothing of its
+-- path, so the bid's later claims take nothing.
 pub fills :
-    (bid path : ℕ) (s : Supply) (claims : List Claim) → Each (λ l. l.bid ≡ bid → l.path ≡ path) claims
-    → won_value bid (walk s claims) ≡ filled_claims (won_by bid (walk s claims)) (of_bid bid claims)
-fills bid path s [] on = refl
-fills bid path s (l ∷ ls) on = go (eqb l.bid bid) refl (fills bid path (left_after s l) ls on.1)
+    (bid path : ℕ) (left : List ℕ) (claims : List Claim) → Each (λ l. l.bid ≡ bid → l.path ≡ path) claims
+    → won_value bid (walk left claims) ≡ filled_claims (won_by bid (walk left claims)) (of_bid bid claims)
+fills bid path left [] on = refl
+fills bid path left (l ∷ ls) on =
+    go (eqb l.bid bid) refl (won_by bid (walk (left_after left l) ls)) (won_value bid (walk (left_after left l) ls)) later
+    (fills bid path (left_after left l) ls on.1)
   where
-    room : ℕ
-    room = min (get_or s.paths l.path 0) (get_or s.directions (s.way l.path) 0)
-
-    later : List Award
-    later = walk (left_after s l) ls
-
-    rest : l.bid ≡ bid → won_by bid later ≤ room - min l.quantity room
-    rest is =
-        let here = on.0 is in
+    later : l.bid ≡ bid → won_by bid (walk (left_after left l) ls) ≤ get_or left l.path 0 - taken_of left l
+    later is =
+        let there = on.0 is in
         omega (
           arith,
-          won-sold bid path later (each-walk (λ m. m.bid ≡ bid → m.path ≡ path) (left_after s l) ls on.1),
-          sold-along s.way path later,
-          path-within path (left_after s l) ls,
-          way-within (s.way path) (left_after s l) ls,
-          ap (λ (p : ℕ). get_or (left_after s l).paths p 0) here,
-          ap (λ (p : ℕ). get_or (left_after s l).directions (s.way p) 0) here,
-          less-there s.paths l.path (taken_of s l),
-          less-there s.directions (s.way l.path) (taken_of s l),
+          won-sold bid path (walk (left_after left l) ls) (each-walk (λ m. m.bid ≡ bid → m.path ≡ path) (left_after left l) ls on.1),
+          sold-within path (left_after left l) ls,
+          ap (λ (p : ℕ). get_or (left_after left l) p 0) there,
+          less-there left l.path (taken_of left l),
         )
 
     go :
         (t :
-        Bool) → eqb l.bid bid ≡ t → won_value bid later ≡ filled_claims (won_by bid later) (of_bid bid ls)
-        → cond t (l.price * min l.quantity room) 0 + won_value bid later ≡ filled_claims (cond t (min l.quantity room) 0 + won_by bid later) (cond t (l ∷ of_bid bid ls) (of_bid bid ls))
-    go true e h =
-        ap (l.price * min l.quantity room +◌) h
-        ∙ fill-next l (of_bid bid ls) room (won_by bid later) (rest (eqb-true l.bid bid e))
-    go false e h = simp zero-add h
+        Bool) → eqb l.bid bid ≡ t → (won value : ℕ) → (l.bid ≡ bid → won ≤ get_or left l.path 0 - taken_of left l) → value ≡ filled_claims won (of_bid bid ls)
+        → cond t (l.price * taken_of left l) 0 + value ≡ filled_claims (cond t (taken_of left l) 0 + won) (cond t (l ∷ of_bid bid ls) (of_bid bid ls))
+    go true e won value most h =
+        let within = most (eqb-true l.bid bid e) in
+        let first : taken_of left l ≡ min l.quantity (taken_of left l + won) = omega (arith, within) in
+        let rest : won ≡ taken_of left l + won - min l.quantity (taken_of left l + won) = omega (arith, within) in
+        ap (l.price * taken_of left l +◌) h
+        ∙ ap₂ (λ (x y : ℕ). l.price * x + filled_claims y (of_bid bid ls)) first rest
+    go false e won value most h =
+        let same : 0 + value ≡ value = omega arith in
+        let none : won ≡ 0 + won = omega arith in
+        same ∙ h ∙ ap (λ (x : ℕ). filled_claims x (of_bid bid ls)) none

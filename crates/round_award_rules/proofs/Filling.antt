@@ -11,7 +11,7 @@ use Rattle.market.specs.Limits.{header_words, pair_words, admitted}
 use Rattle.round_bids.specs.Bids.{Bid}
 use Rattle.round_bids.specs.declared.Lamination.{Lamination}
 use Rattle.round_award_rules.specs.Awards.{Claim, next_at, claims_in, claims_of_bid, claims_from, sum_of}
-use Rattle.round_award_rules.specs.Rivals.{Each, Rival, given_along, rival_value, filled_value, total_value_from, filled_at, filled_from}
+use Rattle.round_award_rules.specs.Rivals.{Each, Rival, given_on, rival_value, filled_value, total_value_from, filled_at, filled_from}
 use Rattle.round_award_rules.proofs.Claims.{each_map, each_append}
 use Rattle.round_award_rules.proofs.RoundClaims.{EachBid}
 use Rattle.round_award_rules.proofs.FillLaws.{filled_claims, filled_in, filled_none}
@@ -36,19 +36,18 @@ fills-own gives won [] h = tt
 fills-own gives won (l ∷ ls) h =
     (omega (arith, h.0), fills-own gives (won - min l.quantity won) ls h.1)
 
--- together they get no more than was won; `at` gives the group of a path
-fills-given :
-    (at : ℕ → ℕ) (gives : Rival) (won path j : ℕ) (ls : List Claim) → Each (λ l. l.path ≡ path) ls → Fills gives won ls → given_along at gives j ls ≤ cond (eqb (at path) j) won 0
-fills-given at gives won path j [] on h = omega arith
-fills-given at gives won path j (l ∷ ls) on h =
-    go (eqb (at path) j)
-    (ap (λ (p : ℕ). cond (eqb (at p) j) (gives l.place) 0) on.0)
-    (fills-given at gives (won - min l.quantity won) path j ls on.1 h.1)
+-- together they get no more than was won
+fills-given : (gives : Rival) (won path j : ℕ) (ls : List Claim) → Each (λ l. l.path ≡ path) ls → Fills gives won ls → given_on gives j ls ≤ cond (eqb path j) won 0
+fills-given gives won path j [] on h = omega arith
+fills-given gives won path j (l ∷ ls) on h =
+    go (eqb path j)
+    (ap (λ (p : ℕ). cond (eqb p j) (gives l.place) 0) on.0)
+    (fills-given gives (won - min l.quantity won) path j ls on.1 h.1)
   where
     go :
         (t :
-        Bool) → cond (eqb (at l.path) j) (gives l.place) 0 ≡ cond t (gives l.place) 0 → given_along at gives j ls ≤ cond t (won - min l.quantity won) 0
-        → cond (eqb (at l.path) j) (gives l.place) 0 + given_along at gives j ls ≤ cond t won 0
+        Bool) → cond (eqb l.path j) (gives l.place) 0 ≡ cond t (gives l.place) 0 → given_on gives j ls ≤ cond t (won - min l.quantity won) 0
+        → cond (eqb l.path j) (gives l.place) 0 + given_on gives j ls ≤ cond t won 0
     go true e k = omega (arith, h.0)
     go false e k = omega arith
 
@@ -106,10 +105,10 @@ on-path bid path place (l ∷ ls) = (refl, on-path bid path (place + pair_words)
 
 -- ---- All bids
 
--- what an award gives the claims of bids: at most its own MW to each, at most what its bids won to each group of paths, and their bid value
+-- what an award gives the claims of bids: at most its own MW to each, at most what its bids won to each path, and their bid value
 pub record Given (won : ℕ → ℕ) (n : ℕ) (bs : List Bid) (claims : List Claim) (gives : Rival) : Type 0 where
   pub own : Each (λ l. gives l.place ≤ l.quantity) claims
-  pub shared : (group : ℕ → ℕ) (j : ℕ) → given_along group gives j claims ≤ sum_bids (λ k b. cond (eqb (group b.path) j) (won k) 0) n bs
+  pub shared : (path : ℕ) → given_on gives path claims ≤ sum_bids (λ k b. cond (eqb b.path path) (won k) 0) n bs
   pub value : rival_value gives claims ≡ total_value_from won n bs
 
 sum-append : (f : Claim → ℕ) (ls ms : List Claim) → sum_of f (ls ++ ms) ≡ sum_of f ls + sum_of f ms
@@ -129,7 +128,7 @@ one-bid :
     Rival) (won bid at : ℕ) (b : Bid) (mark : ℕ) → (eqb mark admitted ≡ false → won ≡ 0)
     → ((l : Claim) → l.place < next_at at b → gives l.place ≡ filled_at won (at + header_words) b.laminations l.place)
     → Each (λ l. gives l.place ≤ l.quantity) (claims_of_bid bid at b mark)
-    × (((group : ℕ → ℕ) (j : ℕ) → given_along group gives j (claims_of_bid bid at b mark) ≤ cond (eqb (group b.path) j) won 0) × (rival_value gives (claims_of_bid bid at b mark) ≡ filled_value won b.laminations))
+    × (((path : ℕ) → given_on gives path (claims_of_bid bid at b mark) ≤ cond (eqb b.path path) won 0) × (rival_value gives (claims_of_bid bid at b mark) ≡ filled_value won b.laminations))
 one-bid gives won bid at b mark none is = go (eqb mark admitted) refl
   where
     claims : List Claim
@@ -146,15 +145,15 @@ one-bid gives won bid at b mark none is = go (eqb mark admitted) refl
         (t :
         Bool) → eqb mark admitted ≡ t
         → Each (λ l. gives l.place ≤ l.quantity) (cond t claims [])
-        × (((group : ℕ → ℕ) (j : ℕ) → given_along group gives j (cond t claims []) ≤ cond (eqb (group b.path) j) won 0) × (rival_value gives (cond t claims []) ≡ filled_value won b.laminations))
+        × (((path : ℕ) → given_on gives path (cond t claims []) ≤ cond (eqb b.path path) won 0) × (rival_value gives (cond t claims []) ≡ filled_value won b.laminations))
     go true e = (
       fills-own gives won claims fill,
       (
-        (λ group j. fills-given group gives won b.path j claims (on-path bid b.path (at + header_words) b.laminations) fill),
+        (λ path. fills-given gives won b.path path claims (on-path bid b.path (at + header_words) b.laminations) fill),
         fills-value gives won claims fill ∙ filled_in bid b.path (at + header_words) won b.laminations,
       ),
     )
-    go false e = (tt, ((λ group j. omega arith), sym (filled_none won b.laminations (none e))))
+    go false e = (tt, ((λ path. omega arith), sym (filled_none won b.laminations (none e))))
 
 own-alike : (gives other : Rival) (ls : List Claim) → Each (λ l. other l.place ≡ gives l.place) ls → Each (λ l. gives l.place ≤ l.quantity) ls → Each (λ l. other l.place ≤ l.quantity) ls
 own-alike gives other [] same h = tt
@@ -164,15 +163,15 @@ own-alike gives other (l ∷ ls) same h = (omega (arith, same.0, h.0), own-alike
 joined :
     (won :
     ℕ → ℕ) (n : ℕ) (b : Bid) (bs : List Bid) (own others : List Claim) (gives later : Rival)
-    → Each (λ l. gives l.place ≤ l.quantity) own × (((group : ℕ → ℕ) (j : ℕ) → given_along group gives j own ≤ cond (eqb (group b.path) j) (won n) 0) × (rival_value gives own ≡ filled_value (won n) b.laminations))
+    → Each (λ l. gives l.place ≤ l.quantity) own × (((path : ℕ) → given_on gives path own ≤ cond (eqb b.path path) (won n) 0) × (rival_value gives own ≡ filled_value (won n) b.laminations))
     → Each (λ l. gives l.place ≡ later l.place) others → Given won (n + 1) bs others later → Given won n (b ∷ bs) (own ++ others) gives
 joined won n b bs own others gives later first same rest =
     record {
       own = each_append (λ l. gives l.place ≤ l.quantity) own others first.0 (own-alike later gives others same rest.own);
-      shared = λ group j.
-          let all = sum-append (λ (l : Claim). cond (eqb (group l.path) j) (gives l.place) 0) own others in
-          let after = sum_alike (λ (l : Claim) (given : ℕ). cond (eqb (group l.path) j) given 0) later gives others same in
-          omega (arith, all, after, first.1.0 group j, rest.shared group j);
+      shared = λ path.
+          let all = sum-append (λ (l : Claim). cond (eqb l.path path) (gives l.place) 0) own others in
+          let after = sum_alike (λ (l : Claim) (given : ℕ). cond (eqb l.path path) given 0) later gives others same in
+          omega (arith, all, after, first.1.0 path, rest.shared path);
       value =
           let all = sum-append (λ (l : Claim). l.price * gives l.place) own others in
           let after = sum_alike (λ (l : Claim) (given : ℕ). l.price * given) later gives others same in
@@ -184,7 +183,7 @@ pub given-from :
     (won :
     ℕ → ℕ) (marks : List ℕ) (n at : ℕ) (bs : List Bid) → EachBid (λ k b. eqb (get_or marks k 0) admitted ≡ false → won k ≡ 0) n bs
     → Given won n bs (claims_from n at bs marks) (filled_from won n at bs)
-given-from won marks n at [] none = record { own = tt; shared = λ group j. omega arith; value = refl }
+given-from won marks n at [] none = record { own = tt; shared = λ path. omega arith; value = refl }
 given-from won marks n at (b ∷ bs) none =
     let gives = filled_from won n at (b ∷ bs) in
     let later = filled_from won (n + 1) (next_at at b) bs in

@@ -1,19 +1,22 @@
--- Laws about what is left of each path, or along each direction, when some of one is taken.
+-- Laws about what is left of each path when some of one path is taken.
 use mathlib.Core.Path.{◌≡◌, refl, sym, ◌∙◌, ap}
 use mathlib.Core.Bool.{Bool, true, false, cond}
 use mathlib.Core.List.{List, [], ◌∷◌}
 use Prim.Native.Nat.{ℕ, zero, suc, ◌+◌, ◌-◌, ◌≤◌}
 use native.Mathlib.Omega.{arith}
 use lib.Dec.{eqb}
-use lib.ListN.{get_or}
+use lib.ListN.{get_or, set}
 use lib.Seq.{get_or-set_other}
 use borrow.Author.Tests.{eqb-true, eqb-false}
-use Rattle.round_award_rules.specs.Awards.{less}
 
 -- the sum of what is left
 abbrev pub total : List ℕ → ℕ
 total [] = 0
 total (n ∷ ns) = n + total ns
+
+-- what is left when `taken` MW are taken of one path
+abbrev pub less : List ℕ → ℕ → ℕ → List ℕ
+less left path taken = set left path (get_or left path 0 - taken)
 
 -- that path has `taken` MW less; past the end of the list nothing is left and nothing can be taken
 pub less-there : (left : List ℕ) (path taken : ℕ) → get_or (less left path taken) path 0 ≡ get_or left path 0 - taken

@@ -3,8 +3,6 @@ pub mod Claims
 pub mod OrderLaws
 pub mod LeftLaws
 pub mod WalkLaws
-pub mod DirectionLaws
-pub mod MostLaws
 pub mod ValueLaws
 pub mod PriceLaws
 pub mod BidClaims
@@ -13,3 +11,6 @@ pub mod FillLaws
 pub mod RoundLaws
 pub mod Filling
 pub mod BestAward
+pub mod WalkWithin
+pub mod MostWithin
+pub mod ValueWithin

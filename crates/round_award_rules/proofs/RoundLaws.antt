@@ -10,7 +10,7 @@ use borrow.Author.Tests.{le-leb, lt-leb, leb-true, leb-false, eqb-true, eqb-fals
 use Rattle.market.specs.Limits.{header_words, admitted}
 use Rattle.round_bids.specs.Bids.{Bid}
 use Rattle.round_bids.specs.BidRefusals.{above_prices}
-use Rattle.round_award_rules.specs.Awards.{Claim, Award, claims_in, claims_of_bid, in_order, Supply, walk, sum_of, won_by}
+use Rattle.round_award_rules.specs.Awards.{Claim, Award, claims_in, claims_of_bid, in_order, walk, sum_of, won_by}
 use Rattle.round_award_rules.specs.Rivals.{Each, filled_value, total_value_from}
 use Rattle.round_award_rules.proofs.Claims.{each_map, EachAward, award-map}
 use Rattle.round_award_rules.proofs.OrderLaws.{each-order}
@@ -31,11 +31,11 @@ module _ (claims : List Claim) (marks : List ℕ) (bid : ℕ) (b : Bid) (own : O
       (each_map {P = InBid bid b.path above_prices} {Q = λ l. l.path ≡ b.path} (λ l i. i.on) (claims_of_bid bid own.at b (get_or marks bid 0))
       (claims-of-bid bid own.at b (get_or marks bid 0) own.sound).0))
 
-  pub own-path-won : (left : Supply) → EachAward (λ a. a.claim.bid ≡ bid → a.claim.path ≡ b.path) (walk left (in_order claims))
+  pub own-path-won : (left : List ℕ) → EachAward (λ a. a.claim.bid ≡ bid → a.claim.path ≡ b.path) (walk left (in_order claims))
   own-path-won left =
       each-walk (λ l. l.bid ≡ bid → l.path ≡ b.path) left (in_order claims) (each-order (λ l. l.bid ≡ bid → l.path ≡ b.path) claims own-path)
 
-  module _ (left : Supply) (strict : Strict claims) where
+  module _ (left : List ℕ) (strict : Strict claims) where
     -- among the claims in order they have the same order
     own-order : of_bid bid (in_order claims) ≡ claims_of_bid bid own.at b (get_or marks bid 0)
     own-order = of-order bid claims strict ∙ own.are
@@ -126,25 +126,24 @@ sums-by-bid f g awards bs below h =
         let here = ap (λ (t : Bool). cond t (f a) 0) (le-leb 0 a.claim.bid (omega arith)) in
         omega (arith, here, all rest)
 
--- of what the paths of a group sold, a bid's part is all that it won, or nothing; `at` gives the group of a path
+-- of what a path sold, a bid's part is all that it won, or nothing
 pub path-part :
-    (at :
-    ℕ → ℕ) (bid own j : ℕ) (awards : List Award) → EachAward (λ a. a.claim.bid ≡ bid → a.claim.path ≡ own) awards
-    → of_one (λ a. cond (eqb (at a.claim.path) j) a.taken 0) bid awards ≡ cond (eqb (at own) j) (won_by bid awards) 0
-path-part at bid own j [] on = none (eqb (at own) j)
+    (bid own path : ℕ) (awards : List Award) → EachAward (λ a. a.claim.bid ≡ bid → a.claim.path ≡ own) awards
+    → of_one (λ a. cond (eqb a.claim.path path) a.taken 0) bid awards ≡ cond (eqb own path) (won_by bid awards) 0
+path-part bid own path [] on = none (eqb own path)
   where
     none : (t : Bool) → ◌≡◌ {A = ℕ} 0 (cond t 0 0)
     none true = refl
     none false = refl
-path-part at bid own j (a ∷ awards) on =
-    both (eqb (at own) j) (cond (eqb a.claim.bid bid) (cond (eqb (at a.claim.path) j) a.taken 0) 0)
-    (of_one (λ c. cond (eqb (at c.claim.path) j) c.taken 0) bid awards) (cond (eqb a.claim.bid bid) a.taken 0) (won_by bid awards)
-    (one (eqb a.claim.bid bid) (eqb (at own) j) refl refl)
-    (path-part at bid own j awards on.1)
+path-part bid own path (a ∷ awards) on =
+    both (eqb own path) (cond (eqb a.claim.bid bid) (cond (eqb a.claim.path path) a.taken 0) 0)
+    (of_one (λ c. cond (eqb c.claim.path path) c.taken 0) bid awards) (cond (eqb a.claim.bid bid) a.taken 0) (won_by bid awards)
+    (one (eqb a.claim.bid bid) (eqb own path) refl refl)
+    (path-part bid own path awards on.1)
   where
-    one : (t u : Bool) → eqb a.claim.bid bid ≡ t → eqb (at own) j ≡ u → cond t (cond (eqb (at a.claim.path) j) a.taken 0) 0 ≡ cond u (cond t a.taken 0) 0
+    one : (t u : Bool) → eqb a.claim.bid bid ≡ t → eqb own path ≡ u → cond t (cond (eqb a.claim.path path) a.taken 0) 0 ≡ cond u (cond t a.taken 0) 0
     one true u x y =
-        ap (λ (p : ℕ). cond (eqb (at p) j) a.taken 0) (on.0 (eqb-true a.claim.bid bid x))
+        ap (λ (p : ℕ). cond (eqb p path) a.taken 0) (on.0 (eqb-true a.claim.bid bid x))
         ∙ ap (λ (t : Bool). cond t a.taken 0) y
     one false true x y = refl
     one false false x y = refl

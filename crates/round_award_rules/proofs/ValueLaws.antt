@@ -1,64 +1,86 @@
--- The bid value of claims that take one after another: in order of falling prices it is at least that of any legal rival award.
-use mathlib.Core.Path.{◌≡◌, ap}
+-- Claims that take in order of falling prices have at least the bid value of any rival award.
+use mathlib.Core.Path.{◌≡◌, refl, sym, ◌∙◌, ap}
+use mathlib.Core.Bool.{Bool, true, false, cond}
 use mathlib.Core.List.{List, [], ◌∷◌}
-use Prim.Native.Nat.{ℕ, suc, ◌+◌, ◌*◌, ◌-◌, ◌≤◌}
+use Prim.Native.Nat.{ℕ, ◌+◌, ◌*◌, ◌-◌, ◌≤◌}
 use native.Mathlib.Omega.{arith}
-use native.Mathlib.Nat.{mul-le-mul_left}
-use lib.ListN.{take}
-use Rattle.round_award_rules.specs.Awards.{Claim, Award, Supply, left_after, walk, sum_of}
-use Rattle.round_award_rules.specs.Rivals.{Rival, Legal, rival_value}
-use Rattle.round_award_rules.proofs.OrderLaws.{FallingBy, FallingFrom}
-use Rattle.round_award_rules.proofs.WalkLaws.{sum-walk, take_walk}
-use Rattle.round_award_rules.proofs.MostLaws.{most-of-first}
+use native.Mathlib.Nat.{mul-add, add-mul, mul-le-mul_left, min-le_right}
+use lib.Dec.{eqb}
+use lib.ListN.{get_or}
+use borrow.Author.Tests.{eq-eqb, eqb-true}
+use Rattle.round_award_rules.specs.Awards.{Claim, Award, taken_of, left_after, walk, sum_of}
+use Rattle.round_award_rules.specs.Rivals.{Each, Rival, given_on, Legal, rival_value}
+use Rattle.round_award_rules.proofs.LeftLaws.{total, less, less-at, less-total, AtMost, total-most}
+use Rattle.round_award_rules.proofs.OrderLaws.{FallingFrom}
 
 -- the bid value of awards, which is the sum of price × MW
 abbrev pub value_of : List Award → ℕ
 value_of awards = sum_of (λ (a : Award). a.claim.price * a.taken) awards
 
--- ---- Two sums of MW under falling prices
+-- ---- One claim
 
--- Each element of a list has a price and two numbers of MW, `more` and `fewer`; before the list stand `a` MW and `b` MW, at a price not below theirs.
--- Prices never rise. If the first elements, however many, have with `a` at least as many MW of `more` as they have with `b` of `fewer`, then so it is
--- with the values of all.
-pub worth-most :
-    {A :
-    Type 0} (price more fewer : A → ℕ) (top a b : ℕ) (xs : List A) → FallingBy price top xs → ((k : ℕ) → b + sum_of fewer (take k xs) ≤ a + sum_of more (take k xs))
-    → sum_of (λ x. price x * fewer x) xs + top * b ≤ sum_of (λ x. price x * more x) xs + top * a
-worth-most price more fewer top a b [] falls most =
-    let start : b ≤ a = omega (arith, most 0) in
-    omega (arith, mul-le-mul_left top start)
-worth-most price more fewer top a b (x ∷ xs) falls most =
-    let start : b ≤ a = omega (arith, most 0) in
-    let above = top - price x in
-    let top-is : top ≡ price x + above = omega (arith, falls.0) in
-    omega (
-      arith,
-      ap (◌* a) top-is,
-      ap (◌* b) top-is,
-      mul-le-mul_left above start,
-      worth-most price more fewer (price x) (a + more x) (b + fewer x) xs falls.1 (λ k. omega (arith, most (suc k))),
-    )
+-- One claim's part of the sum: `e` is what it takes and `r` what a rival gives it. Each MW that either has left
+-- has at most the claim's price as its value from here on, and at most a higher price before.
+weigh :
+    (p top e r value later left left' rivals rivals' : ℕ) → p ≤ top → left' + e ≡ left → rivals' + r ≡ rivals → left ≤ rivals → later + p * left' ≤ value + p * rivals'
+    → (p * r + later) + top * left ≤ (p * e + value) + top * rivals
+weigh p top e r value later left left' rivals rivals' falls is is_r most h =
+    let d = top - p in
+    let top-is : top ≡ p + d = omega arith in
+    let pe : p * left ≡ p * left' + p * e = ap (p *◌) (sym is) ∙ mul-add p left' e in
+    let pr : p * rivals ≡ p * rivals' + p * r = ap (p *◌) (sym is_r) ∙ mul-add p rivals' r in
+    let te : top * left ≡ p * left + d * left = ap (◌* left) top-is ∙ add-mul p d left in
+    let tr : top * rivals ≡ p * rivals + d * rivals = ap (◌* rivals) top-is ∙ add-mul p d rivals in
+    let more : d * left ≤ d * rivals = mul-le-mul_left d most in
+    omega (arith, pe, pr, te, tr, more, h)
+
+-- A claim takes what it can, of what the claims before it left; a rival gives it some, of what it left itself. Then the rival
+-- still has at least as much left of every path.
+still-most : (left rivals : List ℕ) (l : Claim) (given : ℕ) → AtMost left rivals → given ≤ l.quantity → given ≤ get_or rivals l.path 0 → AtMost (left_after left l) (less rivals l.path given)
+still-most left rivals l given most own there path =
+    go (eqb l.path path) refl
+    (less-at left l.path (taken_of left l) path (min-le_right l.quantity (get_or left l.path 0)))
+    (less-at rivals l.path given path there)
+  where
+    go :
+        (t :
+        Bool) → eqb l.path path ≡ t → cond t (taken_of left l) 0 + get_or (left_after left l) path 0 ≡ get_or left path 0
+        → cond t given 0 + get_or (less rivals l.path given) path 0 ≡ get_or rivals path 0 → get_or (left_after left l) path 0 ≤ get_or (less rivals l.path given) path 0
+    go true p e r =
+        let same = eqb-true l.path path p in
+        omega (arith, most path, ap (λ (i : ℕ). get_or left i 0) same)
+    go false p e r = omega (arith, most path)
+
+-- what a rival gives on each path, after one claim
+given-on : (gives : Rival) (rivals : List ℕ) (l : Claim) (ls : List Claim) → ((path : ℕ) → given_on gives path (l ∷ ls) ≤ get_or rivals path 0) → gives l.place ≤ get_or rivals l.path 0
+given-on gives rivals l ls shared =
+    let here : cond (eqb l.path l.path) (gives l.place) 0 ≡ gives l.place = ap (λ (t : Bool). cond t (gives l.place) 0) (eq-eqb l.path l.path refl) in
+    omega (arith, here, shared l.path)
 
 -- ---- All claims
 
--- the prices of claims never rise along their awards either
-falling-walk : (top : ℕ) (s : Supply) (claims : List Claim) → FallingFrom top claims → FallingBy (λ (a : Award). a.claim.price) top (walk s claims)
-falling-walk top s [] falls = tt
-falling-walk top s (l ∷ ls) falls = (falls.0, falling-walk l.price (left_after s l) ls falls.1)
+-- The bid value of what a rival gives, plus what the claims have left at any price not below theirs, is at most the value of
+-- what the claims take, plus what the rival has left at that price.
+pub at-least-rival :
+    (gives :
+    Rival) (top : ℕ) (left rivals : List ℕ) (claims : List Claim) → FallingFrom top claims → AtMost left rivals → Each (λ l. gives l.place ≤ l.quantity) claims
+    → ((path : ℕ) → given_on gives path claims ≤ get_or rivals path 0) → rival_value gives claims + top * total left ≤ value_of (walk left claims) + top * total rivals
+at-least-rival gives top left rivals [] falls most own shared =
+    let h = mul-le-mul_left top (total-most left rivals most) in
+    omega (arith, h)
+at-least-rival gives top left rivals (l ∷ ls) falls most own shared =
+    let given = gives l.place in
+    let there = given-on gives rivals l ls shared in
+    let next =
+    at-least-rival gives l.price (left_after left l) (less rivals l.path given) ls falls.1
+    (still-most left rivals l given most own.0 there) own.1
+    (λ path. omega (arith, shared path, less-at rivals l.path given path there)) in
+    weigh l.price top (taken_of left l) given (value_of (walk (left_after left l) ls)) (rival_value gives ls) (total left) (total (left_after left l)) (total rivals)
+    (total (less rivals l.path given)) falls.0
+    (less-total left l.path (taken_of left l) (min-le_right l.quantity (get_or left l.path 0)))
+    (less-total rivals l.path given there) (total-most left rivals most) next
 
--- claims in order of falling prices have at least the bid value of any legal rival award
-pub best-in-order : (gives : Rival) (top : ℕ) (s : Supply) (claims : List Claim) → FallingFrom top claims → Legal s claims gives → rival_value gives claims ≤ value_of (walk s claims)
-best-in-order gives top s claims falls legal =
-    let given : Award → ℕ = λ a. gives a.claim.place in
-    let most : (k : ℕ) → 0 + sum_of given (take k (walk s claims)) ≤ 0 + sum_of (λ (a : Award). a.taken) (take k (walk s claims)) =
-    λ k. omega (
-      arith,
-      most-of-first gives s claims legal k,
-      ap (sum_of given) (take_walk k s claims),
-      sum-walk (λ l. gives l.place) s (take k claims),
-    ) in
-    omega (
-      arith,
-      sum-walk (λ l. l.price * gives l.place) s claims,
-      worth-most (λ a. a.claim.price) (λ a. a.taken) given top 0 0 (walk s claims) (falling-walk top s claims falls) most,
-    )
+-- so claims in order of falling prices have at least the bid value of any legal rival
+pub best-in-order : (gives : Rival) (top : ℕ) (left : List ℕ) (claims : List Claim) → FallingFrom top claims → Legal left claims gives → rival_value gives claims ≤ value_of (walk left claims)
+best-in-order gives top left claims falls legal =
+    omega (arith, at-least-rival gives top left left claims falls (λ path. omega arith) legal.own legal.shared)

@@ -1,10 +1,8 @@
 -- The awards of a round, and what they come to for bids and paths: rules 7.8 to 7.11.
 use Rattle.std.specs.Prelude.{Bool, cond, ◌&&◌, ◌||◌, List, [], ◌∷◌, ◌++◌, ℕ, ◌+◌, ◌*◌, ◌-◌, min, eqb, ltb, length, get_or, set}
-use Rattle.market.specs.Books.{in_megawatts, in_directions}
 use Rattle.market.specs.Limits.{header_words, pair_words, admitted}
 use Rattle.round_bids.specs.Bids.{Bid}
 use Rattle.round_bids.specs.declared.Lamination.{Lamination}
-use Rattle.round_award_rules.specs.declared.Offered.{Offered}
 
 -- ---- The laminations of admitted bids
 
@@ -61,56 +59,27 @@ in_order (l ∷ ls) = insert l (in_order ls)
 
 -- ---- The walk
 
--- rules 6.7 and 6.8: what a round has for its laminations: the MW of each path and of each direction, and the direction of each path
-pub record Supply : Type 0 where
-  pub paths : List ℕ
-  pub directions : List ℕ
-  pub way : ℕ → ℕ
-
--- rule 2.8: the number of a direction
-abbrev pub is_way : ℕ → Bool
-is_way n = ltb n 2
-
--- what an offer comes to as such numbers
-abbrev pub supply_in : Offered → Supply
-supply_in offered =
-    record {
-      paths = in_megawatts offered.paths;
-      directions = in_directions offered.directions;
-      way = λ path. get_or offered.ways path 0;
-    }
-
--- rule 7.9: what a lamination gets at its turn, of what is left of its path and of its direction
-abbrev pub taken_of : Supply → Claim → ℕ
-taken_of left l =
-    min l.quantity (min (get_or left.paths l.path 0) (get_or left.directions (left.way l.path) 0))
-
--- one number of a list lowered
-abbrev pub less : List ℕ → ℕ → ℕ → List ℕ
-less left i taken = set left i (get_or left i 0 - taken)
+-- rule 7.9: what a lamination gets at its turn; `left` has what is left of each path
+abbrev pub taken_of : List ℕ → Claim → ℕ
+taken_of left l = min l.quantity (get_or left l.path 0)
 
 -- rule 7.9: what is left after its turn
-abbrev pub left_after : Supply → Claim → Supply
-left_after left l =
-    record {
-      paths = less left.paths l.path (taken_of left l);
-      directions = less left.directions (left.way l.path) (taken_of left l);
-      way = left.way;
-    }
+abbrev pub left_after : List ℕ → Claim → List ℕ
+left_after left l = set left l.path (get_or left l.path 0 - taken_of left l)
 
 -- a claim with what it took
 pub record Award : Type 0 where
   pub claim : Claim
   pub taken : ℕ
 
--- rule 7.9: the awards of claims that have their turns one after another, whatever their paths
-abbrev pub walk : Supply → List Claim → List Award
+-- rule 7.9: the awards of claims that have their turns one after another
+abbrev pub walk : List ℕ → List Claim → List Award
 walk left [] = []
 walk left (l ∷ ls) = record { claim = l; taken = taken_of left l } ∷ walk (left_after left l) ls
 
--- rules 7.8 and 7.9: what the laminations of a round's bids take of what the round has
-unfoldable pub awards_of : Supply → List Bid → List ℕ → List Award
-awards_of supply bids marks = walk supply (in_order (claims_of bids marks))
+-- rules 7.8 and 7.9: what the laminations of a round's bids take; `offered` has what the round offers of each path
+unfoldable pub awards_of : List ℕ → List Bid → List ℕ → List Award
+awards_of offered bids marks = walk offered (in_order (claims_of bids marks))
 
 -- ---- What the awards come to
 

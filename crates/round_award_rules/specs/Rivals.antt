@@ -3,7 +3,7 @@ use Rattle.std.specs.Prelude.{cond, List, [], ◌∷◌, ℕ, ◌+◌, ◌*◌, 
 use Rattle.market.specs.Limits.{header_words, pair_words}
 use Rattle.round_bids.specs.Bids.{Bid}
 use Rattle.round_bids.specs.declared.Lamination.{Lamination}
-use Rattle.round_award_rules.specs.Awards.{Claim, Supply, next_at, sum_of}
+use Rattle.round_award_rules.specs.Awards.{Claim, next_at, sum_of}
 
 -- a fact of each claim
 abbrev pub Each : (Claim → Type 0) → List Claim → Type 0
@@ -18,15 +18,10 @@ Rival = ℕ → ℕ
 abbrev pub given_on : Rival → ℕ → List Claim → ℕ
 given_on gives path claims = sum_of (λ (l : Claim). cond (eqb l.path path) (gives l.place) 0) claims
 
--- rule 12.5: what it gives on all paths of a direction, where `way` has the direction of each path
-abbrev pub given_along : (ℕ → ℕ) → Rival → ℕ → List Claim → ℕ
-given_along way gives d claims = sum_of (λ (l : Claim). cond (eqb (way l.path) d) (gives l.place) 0) claims
-
--- rule 12.5: no pair has more than its MW, and no path and no direction more in all than the round has for it
-pub record Legal (supply : Supply) (claims : List Claim) (gives : Rival) : Type 0 where
+-- rule 12.5: no pair has more than its MW, and no path more than the round offers
+pub record Legal (offered : List ℕ) (claims : List Claim) (gives : Rival) : Type 0 where
   pub own : Each (λ l. gives l.place ≤ l.quantity) claims
-  pub shared : (path : ℕ) → given_on gives path claims ≤ get_or supply.paths path 0
-  pub along : (d : ℕ) → given_along supply.way gives d claims ≤ get_or supply.directions d 0
+  pub shared : (path : ℕ) → given_on gives path claims ≤ get_or offered path 0
 
 -- rule 12.5: the total bid value of a rival award
 abbrev pub rival_value : Rival → List Claim → ℕ

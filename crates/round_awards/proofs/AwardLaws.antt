@@ -14,7 +14,7 @@ use Rattle.market.proofs.Tests.{kept-at-most}
 use Rattle.market.specs.Books.{every}
 use Rattle.market.specs.Limits.{path_limit, bid_limit, quantity_limit}
 use Rattle.market.specs.Sound.{sound_quantity}
-use Rattle.round_award_rules.specs.Awards.{Claim, Supply, taken_of, less, left_after, walk, won_by, sold_on, price_on, lower}
+use Rattle.round_award_rules.specs.Awards.{Claim, taken_of, left_after, walk, won_by, sold_on, price_on, lower}
 use Rattle.round_awards.specs.Tables.{won_table, sold_table, price_table}
 use Rattle.round_awards.proofs.TableLaws.{table_is, lower-none, lower-assoc}
 
@@ -47,23 +47,24 @@ and-cond : (s t : Bool) (n : ℕ) → cond s (cond t n 0) 0 ≡ cond (s && t) n 
 and-cond true t n = refl
 and-cond false t n = refl
 
--- claims have taken, and `rest` is left of them all: `left` is left of each path and along each direction, and each sum so far plus what the later
--- claims take is the whole sum
-pub record AwardedTo (all rest : List Claim) (offered left : Supply) (won sold prices : List ℕ) : Type 0 where
+-- claims have taken, and `rest` is left of them all: `left` is left of each path, and each sum so far plus what the later claims take is the
+-- whole sum
+pub record AwardedTo (all rest : List Claim) (offered left won sold prices : List ℕ) : Type 0 where
   pub won-so : (k : ℕ) → won_by k (walk offered all) ≡ get_or won k 0 + won_by k (walk left rest)
   pub sold-so : (p : ℕ) → sold_on p (walk offered all) ≡ get_or sold p 0 + sold_on p (walk left rest)
   pub price-so : (p : ℕ) → price_on p (walk offered all) ≡ lower (get_or prices p 0) (price_on p (walk left rest))
   pub won-long : length won ≡ bid_limit
   pub sold-long : length sold ≡ path_limit
   pub prices-long : length prices ≡ path_limit
-  pub left-sound : every sound_quantity left.paths ≡ true
+  pub left-long : length left ≡ path_limit
+  pub left-sound : every sound_quantity left ≡ true
   pub won-within : (k : ℕ) → get_or won k 0 + length rest * quantity_limit ≤ length all * quantity_limit
   pub sold-within : (p : ℕ) → get_or sold p 0 + length rest * quantity_limit ≤ length all * quantity_limit
 
 pub none-awarded :
-    (all : List Claim) (offered : Supply) → every sound_quantity offered.paths ≡ true
+    (all : List Claim) (offered : List ℕ) → length offered ≡ path_limit → every sound_quantity offered ≡ true
     → AwardedTo all all offered offered (replicate bid_limit 0) (replicate path_limit 0) (replicate path_limit 0)
-none-awarded all offered ok =
+none-awarded all offered long ok =
     record {
       won-so = λ k. omega (arith, zeros-at bid_limit k);
       sold-so = λ p. omega (arith, zeros-at path_limit p);
@@ -71,12 +72,13 @@ none-awarded all offered ok =
       won-long = refl;
       sold-long = refl;
       prices-long = refl;
+      left-long = long;
       left-sound = ok;
       won-within = λ k. omega (arith, zeros-at bid_limit k);
       sold-within = λ p. omega (arith, zeros-at path_limit p);
     }
 
-module _ {all rest : List Claim} {offered left : Supply} {won sold prices : List ℕ} (s : AwardedTo all rest offered left won sold prices) where
+module _ {all rest : List Claim} {offered left won sold prices : List ℕ} (s : AwardedTo all rest offered left won sold prices) where
   -- every claim has taken
   module _ (none_left : rest ≡ []) where
     pub all-won : won ≡ won_table (walk offered all)
@@ -96,8 +98,8 @@ module _ {all rest : List Claim} {offered left : Supply} {won sold prices : List
         sym (s.price-so p ∙ ap (λ (l : List Claim). lower (get_or prices p 0) (price_on p (walk left l))) none_left ∙ lower-none (get_or prices p 0)))
 
   -- what is left of a path is within a quantity's limit
-  pub left-within : (p : ℕ) → get_or left.paths p 0 ≤ quantity_limit
-  left-within p = leb-true (get_or left.paths p 0) quantity_limit (every-at-any sound_quantity left.paths p 0 s.left-sound refl)
+  pub left-within : (p : ℕ) → get_or left p 0 ≤ quantity_limit
+  left-within p = leb-true (get_or left p 0) quantity_limit (every-at-any sound_quantity left p 0 s.left-sound refl)
 
   -- one claim more takes
   module _ (claim : Claim) (next : List Claim) (here : rest ≡ claim ∷ next) (bid-fits : claim.bid < bid_limit) where
@@ -113,16 +115,12 @@ module _ {all rest : List Claim} {offered left : Supply} {won sold prices : List
 
     -- the state after it, if it is for this bid and path, at this price and for this quantity
     abbrev takes : ℕ → ℕ → ℕ
-    takes path quantity = min quantity (min (get_or left.paths path 0) (get_or left.directions (left.way path) 0))
+    takes path quantity = min quantity (get_or left path 0)
 
     abbrev After : ℕ → ℕ → ℕ → ℕ → Type 0
     After bid path price quantity =
         AwardedTo all next offered
-        (record {
-          paths = less left.paths path (takes path quantity);
-          directions = less left.directions (left.way path) (takes path quantity);
-          way = left.way;
-        })
+        (set left path (get_or left path 0 - takes path quantity))
         (set won bid (get_or won bid 0 + takes path quantity))
         (set sold path (get_or sold path 0 + takes path quantity))
         (set prices path (lower (get_or prices path 0) (cond (ltb 0 (takes path quantity)) price 0)))
@@ -147,8 +145,9 @@ module _ {all rest : List Claim} {offered left : Supply} {won sold prices : List
           won-long = length-set won claim.bid (get_or won claim.bid 0 + t) ∙ s.won-long;
           sold-long = length-set sold claim.path (get_or sold claim.path 0 + t) ∙ s.sold-long;
           prices-long = length-set prices claim.path (lower (get_or prices claim.path 0) (cond (ltb 0 t) claim.price 0)) ∙ s.prices-long;
-          left-sound = every_set sound_quantity left.paths claim.path (get_or left.paths claim.path 0 - t) s.left-sound
-              (le-leb (get_or left.paths claim.path 0 - t) quantity_limit (omega (arith, most)));
+          left-long = length-set left claim.path (get_or left claim.path 0 - t) ∙ s.left-long;
+          left-sound = every_set sound_quantity left claim.path (get_or left claim.path 0 - t) s.left-sound
+              (le-leb (get_or left claim.path 0 - t) quantity_limit (omega (arith, most)));
           won-within = λ k.
               omega (arith, s.won-within k, room, most, kept-at-most (eqb claim.bid k) t, added won claim.bid t k (omega (arith, bid-fits, s.won-long)));
           sold-within = λ p.

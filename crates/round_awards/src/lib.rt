@@ -3,7 +3,7 @@ ghost use Rattle.std.specs.Prelude.{◌≡◌, true, cond, ◌≤◌, min, ltb, 
 ghost use Rattle.market.specs.Books.{every, in_cents, in_megawatts};
 ghost use Rattle.market.specs.Limits.{bid_limit, scratch_words};
 ghost use Rattle.market.specs.Sound.{sound_quantity};
-ghost use Rattle.round_award_rules.specs.Awards.{in_order, lower, supply_in, is_way, walk, awards_of};
+ghost use Rattle.round_award_rules.specs.Awards.{in_order, lower, walk, awards_of};
 ghost use Rattle.round_bids.specs.BidRefusals.{BidList};
 ghost use Rattle.round_bids.specs.Bids.{bids_of};
 ghost use Rattle.round_order.specs.Tree.{claims_left, Tree};
@@ -11,7 +11,6 @@ ghost use Rattle.round_awards.specs.Tables.{won_table, sold_table, price_table};
 
 use market::engine::Engine;
 use market::units::{Cents, Megawatts};
-use round_award_rules::Offered;
 
 // The MW that each bid won, the MW sold of each path, and its clearing price, 0 where there is none.
 #[derive(Drop)]
@@ -21,20 +20,14 @@ pub struct Awarded {
     pub prices: [Cents; Engine::PATHS],
 }
 
-fn least(a: Megawatts, b: Megawatts) -> Megawatts
-    ensures { result.0 ≡ min a.0 b.0 }
+// What a lamination takes of what is left of its path.
+fn taken_of(quantity: Megawatts, left: Megawatts) -> Megawatts
+    ensures { result.0 ≡ min quantity.0 left.0 }
 {
-    if a.0 <= b.0 {
-        return a;
+    if quantity.0 <= left.0 {
+        return quantity;
     }
-    b
-}
-
-// What a lamination takes of what is left of its path and along its direction.
-fn taken_of(quantity: Megawatts, left: Megawatts, along: Megawatts) -> Megawatts
-    ensures { result.0 ≡ min quantity.0 (min left.0 along.0) }
-{
-    least(quantity, least(left, along))
+    left
 }
 
 // The lower of two prices, where 0 stands for none.
@@ -63,26 +56,26 @@ fn price_at(taken: Megawatts, price: Cents) -> Cents
     Cents(0)
 }
 
-// The awards of the laminations in a tree, in order; `first` has the one that comes first. `left` is what is left of each path of
-// what the round offers, and `along` what is left along each direction.
-fn award(words: &[u32], count: usize, first: u32, offered: Offered, tree: &mut [u32]) -> Awarded
+// The awards of the laminations in a tree, in order; `first` has the one that comes first. `offered` has what the round offers of
+// each path, and `left` what is left of it.
+fn award(
+    words: &[u32],
+    count: usize,
+    first: u32,
+    offered: [Megawatts; Engine::PATHS],
+    tree: &mut [u32],
+) -> Awarded
     requires tree { Tree words.now count tree.old first }
     requires tree_len_bound { length (in_order (claims_left words.now count tree.old)) ≤ scratch_words }
-    requires paths_value { every sound_quantity (in_megawatts offered.paths) ≡ true }
-    requires ways_value { every is_way offered.ways ≡ true }
+    requires offered_value { every sound_quantity (in_megawatts offered) ≡ true }
     ensures won { in_megawatts result.won
-        ≡ won_table (walk (supply_in offered) (in_order (claims_left words.now count tree.old))) }
+        ≡ won_table (walk (in_megawatts offered) (in_order (claims_left words.now count tree.old))) }
     ensures sold { in_megawatts result.sold
-        ≡ sold_table (walk (supply_in offered) (in_order (claims_left words.now count tree.old))) }
+        ≡ sold_table (walk (in_megawatts offered) (in_order (claims_left words.now count tree.old))) }
     ensures prices { in_cents result.prices
-        ≡ price_table (walk (supply_in offered) (in_order (claims_left words.now count tree.old))) }
+        ≡ price_table (walk (in_megawatts offered) (in_order (claims_left words.now count tree.old))) }
 {
-    let ways = offered.ways;
-    let whole = offered.directions;
-    let exports = whole.exports;
-    let imports = whole.imports;
-    let mut left = offered.paths;
-    let mut along = [exports, imports];
+    let mut left = offered;
     let mut won = [Megawatts(0); Engine::BIDS];
     let mut sold = [Megawatts(0); Engine::PATHS];
     let mut prices = [Cents(0); Engine::PATHS];
@@ -93,19 +86,15 @@ fn award(words: &[u32], count: usize, first: u32, offered: Offered, tree: &mut [
         let price = claim.price;
         let bid = claim.bid;
         let path = claim.path;
-        let way = ways[path];
         let before = left[path];
-        let before_along = along[way];
         let bid_won = won[bid];
         let path_sold = sold[path];
-        let taken = taken_of(quantity, before, before_along);
+        let taken = taken_of(quantity, before);
         let lowest = lower_of(prices[path], price_at(taken, price));
         let rest = before.0 - taken.0;
-        let rest_along = before_along.0 - taken.0;
         let won_now = bid_won.0 + taken.0;
         let sold_now = path_sold.0 + taken.0;
         left[path] = Megawatts(rest);
-        along[way] = Megawatts(rest_along);
         won[bid] = Megawatts(won_now);
         sold[path] = Megawatts(sold_now);
         prices[path] = lowest;
@@ -119,18 +108,17 @@ pub fn award_bids(
     words: &[u32],
     marks: &[u32],
     count: usize,
-    offered: Offered,
+    offered: [Megawatts; Engine::PATHS],
     scratch: &mut [u32],
 ) -> Awarded
     requires bid_list { BidList words.now }
     requires count_value { count ≡ length (bids_of words.now) }
     requires bid_limit_in_bounds { bid_limit ≤ length marks.now }
-    requires paths_value { every sound_quantity (in_megawatts offered.paths) ≡ true }
-    requires ways_value { every is_way offered.ways ≡ true }
+    requires offered_value { every sound_quantity (in_megawatts offered) ≡ true }
     requires scratch_words_in_bounds { scratch_words ≤ length scratch.old }
-    ensures won { in_megawatts result.won ≡ won_table (awards_of (supply_in offered) (bids_of words.now) marks.now) }
-    ensures sold { in_megawatts result.sold ≡ sold_table (awards_of (supply_in offered) (bids_of words.now) marks.now) }
-    ensures prices { in_cents result.prices ≡ price_table (awards_of (supply_in offered) (bids_of words.now) marks.now) }
+    ensures won { in_megawatts result.won ≡ won_table (awards_of (in_megawatts offered) (bids_of words.now) marks.now) }
+    ensures sold { in_megawatts result.sold ≡ sold_table (awards_of (in_megawatts offered) (bids_of words.now) marks.now) }
+    ensures prices { in_cents result.prices ≡ price_table (awards_of (in_megawatts offered) (bids_of words.now) marks.now) }
     ensures scratch { length scratch.new ≡ length scratch.old }
 {
     let first = round_order::start(words, marks, count, scratch);

@@ -1,14 +1,14 @@
-// The paths of a round: its offer of each and of each direction, what they have sold after it, its answers for them, the stage after it.
+// The paths of a round: its offer of each, what they have sold after it, its answers for them, the stage after it.
 ghost use Rattle.std.specs.Prelude.{◌≡◌, ◌++◌, ◌∷◌, [], map, ◌+◌, ◌*◌, ◌≤◌, ◌-◌, length, take, drop, replicate, true};
 ghost use Rattle.market.specs.Limits.{path_limit, path_answer_size, path_answer_words};
 ghost use Rattle.round_paths.specs.PathRows.{path_rows};
-ghost use Rattle.market.specs.Books.{every, in_cents, in_megawatts, with_front, way_of, sold_by};
-ghost use Rattle.market.specs.Sound.{sound_quantity, sold_within};
-ghost use Rattle.round_paths.specs.PathSales.{with_sold, sold_to};
-ghost use Rattle.call_open_offers.specs.Offers.{round_offer, direction_offers};
+ghost use Rattle.market.specs.Books.{every, in_cents, in_megawatts, with_front};
+ghost use Rattle.market.specs.Sound.{sound_quantity};
+ghost use Rattle.round_paths.specs.PathSales.{with_sold, sold_within, sold_to};
+ghost use Rattle.call_open_offers.specs.Offers.{round_offer};
 ghost use Rattle.round_paths.specs.Stages.{after_round, stage_after};
 
-use market::book::{Directions, Kind, Path, Period, Stage};
+use market::book::{Kind, Path, Period, Stage};
 use market::engine::Engine;
 use market::units::{Cents, Megawatts};
 
@@ -59,36 +59,6 @@ pub fn offered_by(
         offered[i] = quantity;
     }
     offered
-}
-
-// The number of the direction of each of the first `count` paths, and 0 past them.
-pub fn ways_of(paths: [Path; Engine::PATHS], count: usize) -> [usize; Engine::PATHS]
-    requires { count ≤ path_limit }
-    ensures { result ≡ map way_of (take count paths) ++ replicate (path_limit - count) 0 }
-{
-    let mut ways = [0; Engine::PATHS];
-    for i in 0..count {
-        let path = paths[i];
-        let direction = path.direction;
-        ways[i] = book_parts::way_of(direction);
-    }
-    ways
-}
-
-// What a round offers of both directions, with these direction quantities and the first `count` paths.
-pub fn directions_by(
-    kind: Kind,
-    round: u32,
-    whole: Directions,
-    paths: [Path; Engine::PATHS],
-    count: usize,
-) -> Directions
-    requires count_le_path_limit { count ≤ path_limit }
-    requires paths_value { every sold_within (take count paths) ≡ true }
-    ensures { result ≡ direction_offers kind round whole (sold_by (take count paths)) }
-{
-    let sold = book_parts::sold_by(paths, count);
-    call_open_offers::offered_along(kind, round, whole, sold)
 }
 
 fn with_sold(path: Path, more: Megawatts) -> Path

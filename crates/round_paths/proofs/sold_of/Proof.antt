@@ -11,9 +11,9 @@ use lib.Seq.{get_or-take, length-take-le}
 use Rattle.market.proofs.Every.{every-within}
 use Rattle.market.proofs.KindLaws.{megawatts-at, number-at-any}
 use Rattle.market.specs.Books.{in_megawatts, megawatts, no_path}
-use Rattle.market.specs.Sound.{sound_quantity, sold_within}
+use Rattle.market.specs.Sound.{sound_quantity}
 use Rattle.market.specs.declared.book.Path.{Path}
-use Rattle.round_paths.specs.PathSales.{sold_to, with_sold}
+use Rattle.round_paths.specs.PathSales.{sold_within, sold_to, with_sold}
 use Rattle.round_paths.proofs.SoldLaws.{sold-next}
 use Rattle.round_paths.proofs.sold_of.Statement.{statement}
 use Rattle.round_paths.proofs.sold_of.Tie as tie

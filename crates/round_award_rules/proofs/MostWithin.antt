@@ -8,10 +8,11 @@ use native.Mathlib.Omega.{arith}
 use lib.Dec.{eqb}
 use lib.ListN.{get_or, take}
 use borrow.Author.Tests.{eq-eqb, eqb-true, eqb-false}
-use Rattle.round_award_rules.specs.Awards.{Claim, Award, Supply, taken_of, less, left_after, walk, sum_of}
-use Rattle.round_award_rules.specs.Rivals.{Each, Rival, Legal}
-use Rattle.round_award_rules.proofs.LeftLaws.{total, less-there, less_other, less-at, less-total, AtMost, total-most}
-use Rattle.round_award_rules.proofs.WalkLaws.{left_along, along-less, along-most, of-way, way-less, paths-less, take_walk}
+use Rattle.round_award_rules.specs.Awards.{Claim, Award, sum_of}
+use Rattle.round_award_rules.specs.Rivals.{Each, Rival}
+use Rattle.round_award_rules.proofs.LeftLaws.{total, less, less-there, less_other, less-at, less-total, AtMost, total-most}
+use Rattle.round_award_rules.proofs.WalkWithin.{left_along, along-less, along-most, taken_within, paths_after, ways_after, walk_within, LegalWithin}
+use Rattle.round_award_rules.proofs.WalkWithin.{of-way, way-less, paths-less, take_within}
 
 -- ---- The first elements of a list
 
@@ -35,10 +36,6 @@ given-first at gives l ls =
     omega (arith, ap (λ (t : Bool). cond t (gives l.place) 0) (eq-eqb (at l) (at l) refl))
 
 module _ (way : ℕ → ℕ) where
-  -- what is left, path by path and along each direction
-  abbrev supply : List ℕ → List ℕ → Supply
-  supply left along = record { paths = left; directions = along; way = way }
-
   -- ---- The claims and a rival, side by side
 
   -- What the claims have left (`left` of each path, `along` each direction) and what a rival has left of its own (`left'`, `along'`). The rival has
@@ -64,15 +61,15 @@ module _ (way : ℕ → ℕ) where
       (own : given ≤ l.quantity) (there : given ≤ get_or left' l.path 0) (room : given ≤ get_or along' (way l.path) 0) where
     -- the rival has at least as much left of a path, if the claims have anything left along its direction
     abbrev Ahead : ℕ → Type 0
-    Ahead path = 0 < get_or (left_after (supply left along) l).directions (way path) 0 → get_or (left_after (supply left along) l).paths path 0 ≤ get_or (less left' l.path given) path 0
+    Ahead path = 0 < get_or (ways_after way left along l) (way path) 0 → get_or (paths_after way left along l) path 0 ≤ get_or (less left' l.path given) path 0
 
     -- of the claim's own path: the direction did not stop the claim, so its MW or the path did
     own-path : Ahead l.path
     own-path some =
-        let mine = less-there along (way l.path) (taken_of (supply left along) l) in
+        let mine = less-there along (way l.path) (taken_within way left along l) in
         omega (
           arith,
-          less-there left l.path (taken_of (supply left along) l),
+          less-there left l.path (taken_within way left along l),
           less-there left' l.path given,
           beside.paths l.path (omega arith),
         )
@@ -82,9 +79,9 @@ module _ (way : ℕ → ℕ) where
     other_path path other some =
         omega (
           arith,
-          less_other left l.path (taken_of (supply left along) l) path other,
+          less_other left l.path (taken_within way left along l) path other,
           less_other left' l.path given path other,
-          beside.paths path (omega (arith, way-less (supply left along) l (way path))),
+          beside.paths path (omega (arith, way-less way left along l (way path))),
         )
 
     -- so of every path
@@ -96,14 +93,14 @@ module _ (way : ℕ → ℕ) where
         go false e = other_path path (λ same. eqb-false l.path path e (sym same))
 
     -- and along each direction both have as much less as of its paths together
-    still-beside : Beside (left_after (supply left along) l).paths (left_after (supply left along) l).directions (less left' l.path given) (less along' (way l.path) given)
+    still-beside : Beside (paths_after way left along l) (ways_after way left along l) (less left' l.path given) (less along' (way l.path) given)
     still-beside =
         record {
           even = λ d. omega (
             arith,
             beside.even d,
-            way-less (supply left along) l d,
-            paths-less (supply left along) l d,
+            way-less way left along l d,
+            paths-less way left along l d,
             less-at along' (way l.path) given d room,
             along-less way d left' l.path given there,
           );
@@ -115,8 +112,8 @@ module _ (way : ℕ → ℕ) where
   -- the MW that a rival gives, with what the claims have left, are at most the MW that the claims take, with what the rival has left
   at-least-given :
       (gives :
-      Rival) (left along left' along' : List ℕ) (claims : List Claim) → Beside left along left' along' → Legal (supply left' along') claims gives
-      → sum_of (λ (l : Claim). gives l.place) claims + total along ≤ sum_of (λ (a : Award). a.taken) (walk (supply left along) claims) + total along'
+      Rival) (left along left' along' : List ℕ) (claims : List Claim) → Beside left along left' along' → LegalWithin way left' along' claims gives
+      → sum_of (λ (l : Claim). gives l.place) claims + total along ≤ sum_of (λ (a : Award). a.taken) (walk_within way left along claims) + total along'
   at-least-given gives left along left' along' [] beside legal =
       omega (arith, total-most along along' (beside-most left along left' along' beside))
   at-least-given gives left along left' along' (l ∷ ls) beside legal =
@@ -124,7 +121,7 @@ module _ (way : ℕ → ℕ) where
       let there : given ≤ get_or left' l.path 0 = omega (arith, given-first (λ m. m.path) gives l ls, legal.shared l.path) in
       let room : given ≤ get_or along' (way l.path) 0 = omega (arith, given-first (λ m. way m.path) gives l ls, legal.along (way l.path)) in
       let next =
-      at-least-given gives (left_after (supply left along) l).paths (left_after (supply left along) l).directions (less left' l.path given) (less along' (way l.path) given) ls
+      at-least-given gives (paths_after way left along l) (ways_after way left along l) (less left' l.path given) (less along' (way l.path) given) ls
       (still-beside left along left' along' l given beside legal.own.0 there room)
       (record {
         own = legal.own.1;
@@ -134,12 +131,12 @@ module _ (way : ℕ → ℕ) where
       omega (
         arith,
         next,
-        less-total along (way l.path) (taken_of (supply left along) l) (of-way (supply left along) l),
+        less-total along (way l.path) (taken_within way left along l) (of-way way left along l),
         less-total along' (way l.path) given room,
       )
 
   -- a legal rival award is legal for the first claims alone
-  legal-first : (k : ℕ) (gives : Rival) (left along : List ℕ) (claims : List Claim) → Legal (supply left along) claims gives → Legal (supply left along) (take k claims) gives
+  legal-first : (k : ℕ) (gives : Rival) (left along : List ℕ) (claims : List Claim) → LegalWithin way left along claims gives → LegalWithin way left along (take k claims) gives
   legal-first k gives left along claims legal =
       record {
         own = each_first (λ l. gives l.place ≤ l.quantity) k claims legal.own;
@@ -147,16 +144,15 @@ module _ (way : ℕ → ℕ) where
         along = λ d. omega (arith, legal.along d, sum_first (λ l. cond (eqb (way l.path) d) (gives l.place) 0) k claims);
       }
 
--- For claims in any order: the first of them, however many, take at least the MW that any legal rival award gives them.
-pub most-of-first :
-    (gives :
-    Rival) (s : Supply) (claims : List Claim) → Legal s claims gives
-    → (k : ℕ) → sum_of (λ (l : Claim). gives l.place) (take k claims) ≤ sum_of (λ (a : Award). a.taken) (take k (walk s claims))
-most-of-first gives s claims legal k =
-    let alike : Beside s.way s.paths s.directions s.paths s.directions = record { even = λ d. refl; paths = λ path some. omega arith } in
-    omega (
-      arith,
-      at-least-given s.way gives s.paths s.directions s.paths s.directions (take k claims) alike
-          (legal-first s.way k gives s.paths s.directions claims legal),
-      ap (sum_of (λ (a : Award). a.taken)) (take_walk k s claims),
-    )
+  -- For claims in any order: the first of them, however many, take at least the MW that any legal rival award gives them.
+  pub most-of-first :
+      (gives :
+      Rival) (left along : List ℕ) (claims : List Claim) → LegalWithin way left along claims gives
+      → (k : ℕ) → sum_of (λ (l : Claim). gives l.place) (take k claims) ≤ sum_of (λ (a : Award). a.taken) (take k (walk_within way left along claims))
+  most-of-first gives left along claims legal k =
+      let alike : Beside left along left along = record { even = λ d. refl; paths = λ path some. omega arith } in
+      omega (
+        arith,
+        at-least-given gives left along left along (take k claims) alike (legal-first k gives left along claims legal),
+        ap (sum_of (λ (a : Award). a.taken)) (take_within way k left along claims),
+      )
