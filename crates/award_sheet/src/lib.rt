@@ -1,4 +1,6 @@
 // The whole award sheet of one round and of two, and the line that takes its place, each on a writer.
+#![tactic(auto)]
+
 pub mod refusals;
 
 ghost use Rattle.std.specs.Prelude.{◌≡◌, true, [], ◌∷◌, ◌≤◌, length};

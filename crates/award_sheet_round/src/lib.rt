@@ -1,4 +1,6 @@
 // A round on the award sheet: its bids, its paths and its awards, each after a line with their count.
+#![tactic(auto)]
+
 mod award_lines;
 mod bid_lines;
 mod path_lines;

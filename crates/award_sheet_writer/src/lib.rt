@@ -1,4 +1,6 @@
 // The writer of an award sheet: the buffer, with how many of its bytes are filled.
+#![tactic(auto)]
+
 ghost use Rattle.std.specs.Prelude.{◌≡◌, true, ◌+◌, ◌≤◌, length};
 ghost use Rattle.market.specs.Books.{every};
 ghost use Rattle.market.specs.Limits.{path_limit, bid_answer_words, path_answer_words};

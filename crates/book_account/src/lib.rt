@@ -1,4 +1,6 @@
 // The signed clearing account: an amount added or taken off, compared with an amount and with 0, its size.
+#![tactic(auto)]
+
 ghost use Rattle.std.specs.Prelude.{◌≡◌, true, ◌≤◌, pos, ◌+ℤ◌, ◌-ℤ◌, nat_abs};
 ghost use Rattle.market.specs.Books.{balance, cents};
 ghost use Rattle.market.specs.Limits.{account_limit};

@@ -1,5 +1,7 @@
 // A book's bidder, a book of which one part is another, and what calls ask of a part.
 // Asked is that the stage is idle, that a period is one that open takes, that a bidder's value is 0.
+#![tactic(auto)]
+
 ghost use Rattle.std.specs.Prelude.{◌≡◌, ◌<◌};
 ghost use Rattle.market.specs.Books.{bidder_of, with_bidder, with_account, with_entries, with_auction, no_value};
 ghost use Rattle.market.specs.Limits.{bidder_limit};

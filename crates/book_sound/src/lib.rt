@@ -1,4 +1,6 @@
 // Whether a book is sound: each function decides one definition of the rules.
+#![tactic(auto)]
+
 ghost use Rattle.std.specs.Prelude.{◌≡◌, ◌&&◌, ◌+◌, ◌≤◌, leb, eqb, take};
 ghost use Rattle.market.specs.Books.{every, ◌implies◌, no_value};
 ghost use Rattle.market.specs.Limits.{path_limit, round_two_owed_limit};

@@ -1,4 +1,6 @@
 // Default: a bidder that owes money forfeits a tenth of its value and loses its pending entries.
+#![tactic(auto)]
+
 mod default_parts;
 
 ghost use Rattle.std.specs.Prelude.{◌≡◌};

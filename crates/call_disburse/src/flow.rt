@@ -1,7 +1,7 @@
 // The direction of a total.
 
 // Out of the clearing account (disbursed), or into it (recovered).
-#[derive(Drop)]
+#[derive(Clone, Copy)]
 pub enum Flow {
     Out,
     In,

@@ -1,4 +1,6 @@
 // Disburse and recover: a total that leaves the clearing account, or comes into it, shared by charges and energy.
+#![tactic(auto)]
+
 mod call;
 mod columns;
 mod flow;

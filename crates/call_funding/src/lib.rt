@@ -1,4 +1,6 @@
 // Deposit and withdraw: cash and letters of credit, in and out; and the deposits of a list, one after another.
+#![tactic(auto)]
+
 mod deposits;
 mod parts;
 
@@ -16,14 +18,14 @@ use market::engine::Engine;
 use market::units::Cents;
 
 // What is deposited or withdrawn: cash, or a letter of credit.
-#[derive(Drop)]
+#[derive(Clone, Copy)]
 pub enum Funds {
     Cash,
     Letter,
 }
 
 // What a bidder deposits: cash, and a letter of credit; where an amount is 0 there is no such deposit.
-#[derive(Drop)]
+#[derive(Clone, Copy)]
 pub struct BidderDeposits {
     pub bidder: u32,
     pub cash: Cents,
@@ -31,7 +33,7 @@ pub struct BidderDeposits {
 }
 
 // The deposits of bidders, in as many slots as a book has bidders: those of the first `count` slots, or of all where there are fewer.
-#[derive(Drop)]
+#[derive(Clone, Copy)]
 pub struct DepositList {
     pub count: usize,
     pub bidders: [BidderDeposits; Engine::BIDDERS],

@@ -1,4 +1,6 @@
 // Open: opens an auction and stores what it offers of each path.
+#![tactic(auto)]
+
 mod parts;
 mod paths;
 

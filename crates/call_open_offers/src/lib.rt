@@ -1,4 +1,6 @@
 // How many MW of a path an auction offers, and how many of them each of its rounds offers.
+#![tactic(auto)]
+
 ghost use Rattle.std.specs.Prelude.{◌≡◌, ◌-◌, min};
 ghost use Rattle.market.specs.Books.{megawatts};
 ghost use Rattle.call_open_offers.specs.Offers.{capability, long_offer, short_offer, auction_offer, long_offered, round_offer};
@@ -8,7 +10,7 @@ use market::engine::Engine;
 use market::units::Megawatts;
 
 // The four quantities that open takes for a path (rule 6.2): base, FUL, A and B.
-#[derive(Drop)]
+#[derive(Clone, Copy)]
 pub struct Quantities {
     pub base: Megawatts,
     pub upper: Megawatts,

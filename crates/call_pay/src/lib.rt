@@ -1,4 +1,6 @@
 // Pay: a bidder settles what it owes after an auction, and its entries are issued.
+#![tactic(auto)]
+
 mod pay_parts;
 
 ghost use Rattle.std.specs.Prelude.{◌≡◌};

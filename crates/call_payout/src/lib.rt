@@ -1,4 +1,6 @@
 // Payout: what issued rights earn in an hour, paid by the clearing account.
+#![tactic(auto)]
+
 mod parts;
 
 ghost use Rattle.std.specs.Prelude.{◌≡◌, ◌++◌, ◌≤◌, length};

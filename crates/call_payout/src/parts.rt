@@ -11,7 +11,7 @@ use market::engine::Engine;
 use market::units::{Cents, Day};
 
 // The amounts of the bidders, and their sum.
-#[derive(Drop)]
+#[derive(Clone, Copy)]
 pub struct Sums {
     pub amounts: [Cents; Engine::BIDDERS],
     pub total: Cents,

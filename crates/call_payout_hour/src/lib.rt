@@ -1,4 +1,6 @@
 // The hour of a payout as one entry sees it, and what a MW earns in it.
+#![tactic(auto)]
+
 ghost use Rattle.std.specs.Prelude.{◌≡◌, true, ◌≤◌, pos, neg_ℤ, length, get_or, take};
 ghost use Rattle.market.specs.Books.{every, cents, zone_price};
 ghost use Rattle.market.specs.Limits.{zones, zone_price_limit};
@@ -9,7 +11,7 @@ use market::engine::Engine;
 use market::units::{Cents, ZonePrice};
 
 // An hour: failed, or with the price at the zone of the entry's path, in cents per MW.
-#[derive(Drop)]
+#[derive(Clone, Copy)]
 pub enum Hour {
     Failed,
     Priced(ZonePrice),

@@ -1,4 +1,6 @@
 // Rent: money into the clearing account.
+#![tactic(auto)]
+
 mod parts;
 
 ghost use Rattle.std.specs.Prelude.{◌≡◌};

@@ -1,4 +1,6 @@
 // Retire: the issued entries that have ended leave the register.
+#![tactic(auto)]
+
 ghost use Rattle.std.specs.Prelude.{◌≡◌};
 ghost use Rattle.call_rules.specs.Steps.{refusal_of, outcome_of, words_after};
 ghost use Rattle.call_retire.specs.Retire as rules;

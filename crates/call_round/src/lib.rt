@@ -1,4 +1,6 @@
 // Round: a round of an auction whole, with its refusals, made of the parts above.
+#![tactic(auto)]
+
 mod early;
 mod effect;
 mod stage;

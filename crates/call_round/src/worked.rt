@@ -16,7 +16,7 @@ use market::units::Megawatts;
 use round_awards::Awarded;
 
 // The marks of the bids, the number of bids, and what the round offers of each path.
-#[derive(Drop)]
+#[derive(Clone, Copy)]
 pub struct Worked {
     pub marks: [u32; Engine::BIDS],
     pub bids: usize,

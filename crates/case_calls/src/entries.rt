@@ -13,7 +13,7 @@ const WORDS: usize = Engine::REGISTER_WORDS;
 const BLANK: u32 = 7;
 
 // The calls that are made.
-#[derive(Drop)]
+#[derive(Clone, Copy)]
 enum Call {
     Pay { bidder: u32, amount: u64 },
     Default { bidder: u32 },

@@ -1,4 +1,6 @@
 // The boundary cases of the calls, each made by itself.
+#![tactic(auto)]
+
 mod entries;
 mod money;
 mod payouts;

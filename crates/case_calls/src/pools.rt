@@ -20,7 +20,7 @@ const COLUMN: u32 = 100_000_000;
 const LARGEST: u32 = 4_294_967_295;
 
 // The lists that are lent.
-#[derive(Drop)]
+#[derive(Clone, Copy)]
 struct Lists {
     provincial: [u32; WORDS],
     export: [u32; WORDS],

@@ -1,12 +1,14 @@
 // Cases found in one text, one after another.
 // Before a case there is a line with a word, how many bytes the case has, and a name for it; after the case there is one byte 10.
+#![tactic(auto)]
+
 ghost use Rattle.std.specs.Prelude.{◌≤◌, ◌<◌, length};
 
 use text_fields::Field;
 
 // Where a case is in a text: its name up to the end of the line, its own bytes, and the place after all of it, 0 where there is
 // no case.
-#[derive(Drop)]
+#[derive(Clone, Copy)]
 pub struct Case {
     pub name: usize,
     pub line: usize,

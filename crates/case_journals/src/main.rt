@@ -1,5 +1,7 @@
 // The journals of standard input, run one after the other, and the output of each, to standard output.
 // Each is a case with the word `journal`.
+#![tactic(auto)]
+
 ghost use Rattle.std.specs.Prelude.{◌≤◌, length};
 
 use case_tools::report;

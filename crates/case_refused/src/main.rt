@@ -1,4 +1,6 @@
 // The refusals of a round, and registers with little room.
+#![tactic(auto)]
+
 mod full;
 mod refusals;
 

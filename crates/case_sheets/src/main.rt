@@ -1,5 +1,7 @@
 // The sheets of standard input, run one after the other, and the output of each, to standard output.
 // Each is a case with the word `sheet`: first those that are malformed, then those that are well formed.
+#![tactic(auto)]
+
 ghost use Rattle.std.specs.Prelude.{◌≤◌, length};
 
 use case_tools::report;

@@ -4,7 +4,7 @@ use market::book::{Kind, Period};
 use market::units::{Cents, Day};
 
 // A call, with what it is given besides the lists that are lent to it.
-#[derive(Drop)]
+#[derive(Clone, Copy)]
 pub enum Call {
     Deposit {
         bidder: u32,

@@ -1,4 +1,6 @@
 // The engine's one function for callers: a call that is any of the eleven.
+#![tactic(auto)]
+
 pub mod calls;
 
 ghost use Rattle.call_rules.specs.Rule.{lists};

@@ -6,7 +6,7 @@ use market::book::{Kind, Period};
 use market::units::Day;
 
 // Kind and period of an auction, whether they are present, and the bytes that they take.
-#[derive(Drop)]
+#[derive(Clone, Copy)]
 pub struct Opening {
     pub present: bool,
     pub kind: Kind,
@@ -15,7 +15,7 @@ pub struct Opening {
 }
 
 // Day and hour of a payout, whether they are present, and the bytes that they take.
-#[derive(Drop)]
+#[derive(Clone, Copy)]
 pub struct HourLine {
     pub present: bool,
     pub day: Day,

@@ -1,4 +1,6 @@
 // The lines of a journal's calls: what each says, read into a call and its lists.
+#![tactic(auto)]
+
 mod heads;
 mod plain;
 
@@ -15,7 +17,7 @@ use market::units::Cents;
 pub const COLUMN_WORDS: usize = 4 * Engine::BIDDERS;
 
 // What a line says: nothing, or a call and how many words and how many prices its lists have.
-#[derive(Drop)]
+#[derive(Clone, Copy)]
 pub enum Said {
     Faulty,
     Called(Call, usize, usize),

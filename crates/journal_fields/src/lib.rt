@@ -1,5 +1,7 @@
 // The fields of a journal's line, each read at a place of the line with the space before it.
 // The result also says how many bytes the field takes, 0 where it is not present.
+#![tactic(auto)]
+
 ghost use Rattle.std.specs.Prelude.{◌≡◌, ◌+◌, ◌≤◌, length, drop};
 ghost use Rattle.text_numbers.specs.Decimal.{digits_in};
 ghost use Rattle.journal_fields.specs.JournalFields as rules;
@@ -15,7 +17,7 @@ const ZERO: u8 = 48;
 const NINE: u8 = 57;
 
 // A price that was read, and the bytes that it takes.
-#[derive(Drop)]
+#[derive(Clone, Copy)]
 pub struct Price {
     pub value: i64,
     pub used: usize,

@@ -1,4 +1,6 @@
 // The line of a fresh book: its routes, read into slots.
+#![tactic(auto)]
+
 ghost use Rattle.std.specs.Prelude.{◌≡◌, ◌+◌, ◌≤◌, length, drop};
 ghost use Rattle.market.specs.Books.{no_route};
 ghost use Rattle.journal_fresh_line.specs.FreshLines as rules;
@@ -8,14 +10,14 @@ use market::engine::Engine;
 use text_fields::Field;
 
 // A route that was read, and the bytes that it takes, 0 where it is not present.
-#[derive(Drop)]
+#[derive(Clone, Copy)]
 pub struct RouteField {
     pub route: Route,
     pub used: usize,
 }
 
 // What a line says: whether its routes go on to its end, how many there are, and the first of them in their slots.
-#[derive(Drop)]
+#[derive(Clone, Copy)]
 pub struct FreshLine {
     pub present: bool,
     pub count: usize,

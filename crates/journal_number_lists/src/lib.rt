@@ -1,4 +1,6 @@
 // The words and the zone prices that end a journal's line, put at the front of a list.
+#![tactic(auto)]
+
 ghost use Rattle.std.specs.Prelude.{◌≡◌, ◌+◌, ◌≤◌, pos, neg_ℤ, length, drop};
 ghost use Rattle.market.specs.Books.{with_front};
 ghost use Rattle.journal_fields.specs.JournalFields as rules;
@@ -9,7 +11,7 @@ use journal_fields::Price;
 const PRICE_TOP: u64 = 9_223_372_036_854_775_807;
 
 // Numbers that were read one after another: how many, and the bytes that they take.
-#[derive(Drop)]
+#[derive(Clone, Copy)]
 pub struct Run {
     pub count: usize,
     pub used: usize,

@@ -1,5 +1,7 @@
 // Journals run and printed: the reply to each line of a text, and then the state.
 // `journal_step::answer_line` makes the replies; these functions only find the lines and write.
+#![tactic(auto)]
+
 ghost use Rattle.std.specs.Prelude.{◌≡◌, ◌+◌, ◌≤◌, length};
 ghost use Rattle.market.specs.Limits.{zones};
 ghost use Rattle.journal_reply.specs.Replies.{reply_room};
@@ -17,7 +19,7 @@ const READS: u64 = 18_446_744_073_709_551_615;
 
 // A journal that was run as far as it has whole lines: its state, where the text after the last of them begins, and whether that
 // text is the rest of a line that is too long.
-#[derive(Drop)]
+#[derive(Clone, Copy)]
 pub struct Run {
     pub journal: Journal,
     pub at: usize,

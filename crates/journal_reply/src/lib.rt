@@ -1,4 +1,6 @@
 // The reply that a journal prints to each call.
+#![tactic(auto)]
+
 ghost use Rattle.std.specs.Prelude.{◌+◌, ◌*◌, ◌≤◌, length};
 ghost use Rattle.market.specs.Answers.{bids_in};
 ghost use Rattle.market.specs.Limits.{bidder_limit, bid_limit, bid_answer_size, path_limit, path_answer_size};
@@ -9,7 +11,7 @@ use market::answer::Answer;
 use market::engine::Engine;
 
 // What an answered call tells besides its number: nothing, or a list.
-#[derive(Drop)]
+#[derive(Clone, Copy)]
 pub enum Told {
     Nothing,
     Listed,

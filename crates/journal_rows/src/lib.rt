@@ -1,4 +1,6 @@
 // Rows of a journal's output, put into a buffer: a mark, and numbers with a space before each.
+#![tactic(auto)]
+
 ghost use Rattle.std.specs.Prelude.{◌∷◌, ◌+◌, ◌*◌, ◌≤◌, length};
 ghost use Rattle.text_numbers.specs.Decimal.{decimal};
 ghost use Rattle.text_numbers.specs.Put.{Put};

@@ -1,4 +1,6 @@
 // What a journal prints of the engine and of the book, each line at the front of the buffer.
+#![tactic(auto)]
+
 ghost use Rattle.std.specs.Prelude.{◌+◌, ◌≤◌, length};
 ghost use Rattle.text_numbers.specs.Put.{Put};
 ghost use Rattle.journal_state_book.specs.States.{line_room, engine_text, account_text, open_text, stage_text, book_text};

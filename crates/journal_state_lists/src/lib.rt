@@ -1,4 +1,6 @@
 // What a journal prints of paths, bidders and entries, each line at the front of the buffer.
+#![tactic(auto)]
+
 ghost use Rattle.std.specs.Prelude.{◌≡◌, ◌+◌, ◌≤◌, length};
 ghost use Rattle.text_numbers.specs.Put.{Put};
 ghost use Rattle.journal_state_book.specs.States.{line_room, offer_text, path_text, blank, bidder_part, entry_text};

@@ -14,7 +14,7 @@ use market::book::Path;
 use market::engine::Engine;
 
 // What an answered call tells besides its number: nothing, what each path offers, what a round awards, or 32 amounts.
-#[derive(Drop)]
+#[derive(Clone, Copy)]
 pub enum Tell {
     Nothing,
     Offers,
@@ -23,7 +23,7 @@ pub enum Tell {
 }
 
 // What each path of a book offers, in slots, and how many paths there are.
-#[derive(Drop)]
+#[derive(Clone, Copy)]
 pub struct Offers {
     pub count: usize,
     pub slots: [u64; Engine::PATHS],

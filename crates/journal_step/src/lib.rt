@@ -1,4 +1,6 @@
 // One line of a journal, run: read, made through the engine, and its reply put into a buffer.
+#![tactic(auto)]
+
 mod answers;
 
 ghost use Rattle.std.specs.Prelude.{◌≡◌, [], ◌<◌, ◌≤◌, length, take, replicate};
@@ -29,14 +31,14 @@ pub const WORD_ROOM: usize = 32_768;
 pub const REPLY_ROOM: usize = 65_536;
 
 // A journal's state besides the register: whether a fresh book was answered, and the book.
-#[derive(Drop)]
+#[derive(Clone, Copy)]
 pub struct Journal {
     pub ready: bool,
     pub book: Book,
 }
 
 // The state after a line, and how many bytes were put into the buffer.
-#[derive(Drop)]
+#[derive(Clone, Copy)]
 pub struct Replied {
     pub journal: Journal,
     pub used: usize,

@@ -1,4 +1,6 @@
 // The participants' amounts, written to the list that is lent for them.
+#![tactic(auto)]
+
 ghost use Rattle.std.specs.Prelude.{◌≡◌, ◌≤◌, length};
 ghost use Rattle.market.specs.Books.{in_cents, with_front};
 ghost use Rattle.market.specs.Limits.{bidder_limit};

@@ -1,5 +1,7 @@
 // A book in lent 64-bit words: decoded, encoded, and whether words encode one.
 // Seven words are in front, then four for each slot of a path and six for each bidder. The account, which is signed, is kept beside the words.
+#![tactic(auto)]
+
 pub mod decode;
 pub mod encode;
 pub mod valid;

@@ -1,4 +1,6 @@
 // A line of a journal run on the state that a program keeps in lent words.
+#![tactic(auto)]
+
 ghost use Rattle.std.specs.Prelude.{◌≡◌, ◌≤◌, length};
 ghost use Rattle.library_book.specs.BookWords.{book_size, FitsBook};
 ghost use Rattle.journal_reply.specs.Replies.{reply_room};

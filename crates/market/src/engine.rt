@@ -6,7 +6,7 @@ use crate::answer::{Answer, Outcome, Refusal};
 use crate::book::{Route, Stage};
 use crate::fresh;
 
-#[derive(Drop)]
+#[derive(Clone, Copy)]
 pub struct Engine {}
 
 impl Engine {

@@ -1,4 +1,6 @@
 // The two pools of a total, each participant's share in both, and what is refused of the columns.
+#![tactic(auto)]
+
 ghost use Rattle.std.specs.Prelude.{◌≡◌, true, ◌≤◌, ◌<◌};
 ghost use Rattle.market.specs.Answers.{first_of};
 ghost use Rattle.market.specs.Books.{cents, in_cents};
@@ -12,7 +14,7 @@ use market::engine::Engine;
 use market::units::Cents;
 
 // Each participant's charges, in whole dollars, and energy, in whole MWh.
-#[derive(Drop)]
+#[derive(Clone, Copy)]
 pub struct Columns {
     pub provincial: [u32; Engine::BIDDERS],
     pub export: [u32; Engine::BIDDERS],

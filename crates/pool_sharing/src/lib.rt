@@ -1,5 +1,7 @@
 // A pool shared by weights: whole cents first, then the cents that are left over, by remainder.
 // Also the total of a column, and the weights of a pool.
+#![tactic(auto)]
+
 ghost use Rattle.std.specs.Prelude.{◌≡◌, map, ◌+◌, ◌≤◌, ◌<◌};
 ghost use Rattle.pool_sharing.specs.Sharing.{total, weight_of, eligible, floor_of, remainder_of, largest, hand_out, pool_shares};
 ghost use Rattle.market.specs.Books.{cents, in_cents};

@@ -1,1 +1,3 @@
 // The starred cases: rows in `specs/`, computed by the rules in `proofs/`; no code.
+#![tactic(auto)]
+

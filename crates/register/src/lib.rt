@@ -1,4 +1,6 @@
 // The register's entries in the lent words: read, put, appended; no crate above this one knows their places.
+#![tactic(auto)]
+
 ghost use Rattle.std.specs.Prelude.{◌≡◌, ◌++◌, ◌∷◌, [], ◌+◌, ◌*◌, ◌≤◌, length};
 ghost use Rattle.market.specs.Limits.{entry_words};
 ghost use Rattle.register.specs.Words.{entry_at, entries_of, entry_put, entries_written};
@@ -8,7 +10,7 @@ use market::engine::Engine;
 use market::units::{Day, Megawatts};
 
 // Which entries are to be removed: a bidder's pending ones, or issued ones that ended before a day.
-#[derive(Drop)]
+#[derive(Clone, Copy)]
 pub enum Removal {
     PendingOf(u32),
     EndedBefore(Day),

@@ -1,5 +1,7 @@
 // The register's counted entries: a bidder's issued, some removed, and the MW outstanding on each path (rule 6.3).
 // Outstanding are the MW of a path's entries that overlap a given period.
+#![tactic(auto)]
+
 ghost use Rattle.std.specs.Prelude.{◌≡◌, cond, true, map, ℕ, ◌+◌, ◌*◌, ◌≤◌, length, get_or};
 ghost use Rattle.market.specs.Limits.{entry_words, entry_limit, path_limit};
 ghost use Rattle.register.specs.Entries.{issued_to, goes, without, sound_entry, shares_day, outstanding};

@@ -1,4 +1,6 @@
 // Whether the register lent to a call is long enough, and book and counted entries are sound: refusals 1 and 2.
+#![tactic(auto)]
+
 ghost use Rattle.std.specs.Prelude.{◌≡◌, ◌*◌, ◌≤◌, ltb, length};
 ghost use Rattle.market.specs.Answers.{first_of};
 ghost use Rattle.market.specs.Books.{every};

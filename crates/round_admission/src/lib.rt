@@ -1,4 +1,6 @@
 // Bidding limits, and which bids of a round are admitted.
+#![tactic(auto)]
+
 ghost use Rattle.std.specs.Prelude.{◌≡◌, true, cond, map, ◌++◌, ◌-◌, ◌≤◌, leb, length, replicate};
 ghost use Rattle.market.specs.Sound.{BidderBounds, AllWithin};
 ghost use Rattle.market.specs.Books.{every, in_cents};
@@ -66,7 +68,7 @@ fn used_after(before: Cents, total: Cents, limit: Cents) -> Cents
 }
 
 // The marks of a round's bids, in list order and 0 past the last, and the number of bids.
-#[derive(Drop)]
+#[derive(Clone, Copy)]
 pub struct Marks {
     pub marks: [u32; Engine::BIDS],
     pub bids: usize,

@@ -1,1 +1,3 @@
 // The rules of awards and of rival awards, and the theorems about them; no code.
+#![tactic(auto)]
+

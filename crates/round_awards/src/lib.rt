@@ -1,4 +1,6 @@
 // What the laminations of a round take in their order, and what that comes to for each bid and path.
+#![tactic(auto)]
+
 ghost use Rattle.std.specs.Prelude.{◌≡◌, true, cond, ◌≤◌, min, ltb, length};
 ghost use Rattle.market.specs.Books.{every, in_cents, in_megawatts};
 ghost use Rattle.market.specs.Limits.{bid_limit, scratch_words};
@@ -13,7 +15,7 @@ use market::engine::Engine;
 use market::units::{Cents, Megawatts};
 
 // The MW that each bid won, the MW sold of each path, and its clearing price, 0 where there is none.
-#[derive(Drop)]
+#[derive(Clone, Copy)]
 pub struct Awarded {
     pub won: [Megawatts; Engine::BIDS],
     pub sold: [Megawatts; Engine::PATHS],

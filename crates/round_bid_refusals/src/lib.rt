@@ -1,4 +1,6 @@
 // Which lists of bids a round takes, and the refusal of every other.
+#![tactic(auto)]
+
 ghost use Rattle.std.specs.Prelude.{◌≡◌, true, ◌&&◌, ◌+◌, ◌*◌, ◌≤◌, ◌<◌, length};
 ghost use Rattle.market.specs.Answers.{first_of};
 ghost use Rattle.market.specs.Limits.{path_limit, bidder_limit, pair_words};

@@ -1,4 +1,6 @@
 // The bidders after a round, billed with its charges.
+#![tactic(auto)]
+
 ghost use Rattle.std.specs.Prelude.{◌≡◌, true, min};
 ghost use Rattle.market.specs.Sound.{BidderBounds, AllWithin};
 ghost use Rattle.market.specs.Books.{every, in_cents};

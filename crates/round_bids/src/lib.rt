@@ -1,4 +1,6 @@
 // The bid list as words: what a bid is, its bid value, and where the next bid begins.
+#![tactic(auto)]
+
 ghost use Rattle.std.specs.Prelude.{◌≡◌, true, ◌+◌, ◌*◌, ◌≤◌, length};
 ghost use Rattle.market.specs.Books.{cents};
 ghost use Rattle.market.specs.Limits.{lamination_limit, header_words, pair_words};
@@ -10,14 +12,14 @@ use market::engine::Engine;
 use market::units::{Cents, Megawatts};
 
 // A pair of a bid: a price in cents per MW, which buys the MW for all days of the period, and the MW bid for at that price.
-#[derive(Drop)]
+#[derive(Clone, Copy)]
 pub struct Lamination {
     pub price: Cents,
     pub quantity: Megawatts,
 }
 
 // The words before a bid's pairs; `count` is the number of pairs.
-#[derive(Drop)]
+#[derive(Clone, Copy)]
 pub struct Header {
     pub bidder: u32,
     pub path: u32,

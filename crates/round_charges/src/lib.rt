@@ -1,4 +1,6 @@
 // The charges of a round's bids, and the answers for them.
+#![tactic(auto)]
+
 ghost use Rattle.std.specs.Prelude.{◌≡◌, true, ◌++◌, ◌∷◌, [], ◌+◌, ◌*◌, ◌≤◌, ◌<◌, length, take, drop};
 ghost use Rattle.market.specs.Books.{every, cents, in_cents, in_megawatts, with_front};
 ghost use Rattle.market.specs.Limits.{bid_limit, bid_answer_size, bid_answer_words};

@@ -1,4 +1,6 @@
 // The laminations of admitted bids, each in one word of the lent scratch: claims.
+#![tactic(auto)]
+
 ghost use Rattle.std.specs.Prelude.{◌≡◌, true, ◌+◌, ◌*◌, ◌≤◌, ◌<◌, length, get_or};
 ghost use Rattle.market.specs.Limits.{path_limit, bid_limit, bid_list_words, header_words, pair_words};
 ghost use Rattle.round_bids.specs.BidRefusals.{sound_bid_at};
@@ -8,7 +10,7 @@ use market::engine::Engine;
 use market::units::{Cents, Megawatts};
 
 // A claim, which is a lamination of an admitted bid: the bid's number, its path, and the pair.
-#[derive(Drop)]
+#[derive(Clone, Copy)]
 pub struct Claim {
     pub bid: usize,
     pub path: usize,

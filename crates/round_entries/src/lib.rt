@@ -1,4 +1,6 @@
 // The winning bids of a round: how many, whether the register has room for them, and their entries added to it.
+#![tactic(auto)]
+
 ghost use Rattle.std.specs.Prelude.{◌≡◌, cond, ◌++◌, ◌+◌, ◌≤◌, ◌*◌, leb, ltb, length};
 ghost use Rattle.market.specs.Books.{in_megawatts};
 ghost use Rattle.market.specs.Limits.{bid_limit, entry_limit, entry_words, register_words};

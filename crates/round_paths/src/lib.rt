@@ -1,4 +1,6 @@
 // The paths of a round: its offer of each, what they have sold after it, its answers for them, the stage after it.
+#![tactic(auto)]
+
 ghost use Rattle.std.specs.Prelude.{◌≡◌, ◌++◌, ◌∷◌, [], map, ◌+◌, ◌*◌, ◌≤◌, ◌-◌, length, take, drop, replicate, true};
 ghost use Rattle.market.specs.Limits.{path_limit, path_answer_size, path_answer_words};
 ghost use Rattle.round_paths.specs.PathRows.{path_rows};

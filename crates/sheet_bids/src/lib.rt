@@ -1,4 +1,6 @@
 // The bid sections of a sheet, handed back as parts of the caller's bytes, and their words.
+#![tactic(auto)]
+
 ghost use Rattle.std.specs.Prelude.{◌≡◌, ◌-◌, ◌≤◌, length, take, drop};
 ghost use Rattle.market.specs.Limits.{sheet_bytes};
 ghost use Rattle.sheet_lines.specs.Lines.{title_used};

@@ -1,4 +1,6 @@
 // The calls of a sheet before its first round: fresh book, deposits, open; and the numbers of its bidders.
+#![tactic(auto)]
+
 mod deposits;
 mod slots;
 

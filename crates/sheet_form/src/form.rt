@@ -11,14 +11,14 @@ use market::engine::Engine;
 use sheet_lines::part::Part;
 
 // Whether a text is a well-formed sheet; if not, the number of the line at which it stops being one, or 0 for a text of too many bytes (rule 14.8).
-#[derive(Drop)]
+#[derive(Clone, Copy)]
 pub enum Form {
     Right,
     Faulty(u32),
 }
 
 // How many lines were read, one after another, and the bytes that they take.
-#[derive(Drop)]
+#[derive(Clone, Copy)]
 pub struct Read {
     pub lines: usize,
     pub used: usize,
@@ -50,7 +50,7 @@ fn lines_from(part: Part, bytes: &[u8], at: usize, count: u64) -> Read
 }
 
 // A section that was read: whether all its lines are right, how many are, with its count line, and the bytes that these take.
-#[derive(Drop)]
+#[derive(Clone, Copy)]
 pub struct Section {
     pub present: bool,
     pub lines: usize,
@@ -110,7 +110,7 @@ fn last_round(bytes: &[u8], at: usize, line: u32) -> Form
 }
 
 // What was found from the first section of bids on: the form, and the place of the second section, or of the end.
-#[derive(Drop)]
+#[derive(Clone, Copy)]
 pub struct Rounds {
     pub form: Form,
     pub second: usize,
@@ -143,7 +143,7 @@ fn rounds_form(kind: Kind, bytes: &[u8], at: usize, line: u32) -> Rounds
 
 // What was found of a sheet: its form and, if that is right, the places at which its sections begin. After the first section of
 // bids comes the second, or the end.
-#[derive(Drop)]
+#[derive(Clone, Copy)]
 pub struct Found {
     pub form: Form,
     pub bidders: usize,

@@ -3,7 +3,7 @@ use market::book::Direction;
 use market::engine::Engine;
 
 // A bidder's line: bidder, cash and letter.
-#[derive(Drop)]
+#[derive(Clone, Copy)]
 pub struct BidderLine {
     pub bidder: u64,
     pub cash: u64,
@@ -11,7 +11,7 @@ pub struct BidderLine {
 }
 
 // A path's line, after its number: direction, zone, base, FUL, A and B.
-#[derive(Drop)]
+#[derive(Clone, Copy)]
 pub struct PathLine {
     pub direction: Direction,
     pub zone: u32,
@@ -22,14 +22,14 @@ pub struct PathLine {
 }
 
 // The bidders' lines of a sheet, in as many slots as a book has bidders, and how many lines there are.
-#[derive(Drop)]
+#[derive(Clone, Copy)]
 pub struct BidderRows {
     pub count: usize,
     pub lines: [BidderLine; Engine::BIDDERS],
 }
 
 // The first paths' lines of a sheet, in as many slots as a book has paths, and how many lines there are in all.
-#[derive(Drop)]
+#[derive(Clone, Copy)]
 pub struct PathRows {
     pub count: usize,
     pub lines: [PathLine; Engine::PATHS],

@@ -1,5 +1,7 @@
 // The lines of a sheet, each read at a place of its text.
 // Each is given by the bytes that it takes, its byte 10 included, or 0 if it is faulty.
+#![tactic(auto)]
+
 pub mod part;
 pub mod section;
 

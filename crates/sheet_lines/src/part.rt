@@ -1,7 +1,7 @@
 // The sections of a sheet.
 
 // A section: its lines are the bidders', the paths' or a round's bids.
-#[derive(Drop)]
+#[derive(Clone, Copy)]
 pub enum Part {
     Bidders,
     Paths,
@@ -9,7 +9,7 @@ pub enum Part {
 }
 
 // A line that was read: the bytes that it takes, 0 if it is faulty, and what it asks of the next line.
-#[derive(Drop)]
+#[derive(Clone, Copy)]
 pub struct Step {
     pub used: usize,
     pub next: u64,

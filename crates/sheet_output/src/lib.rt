@@ -1,4 +1,6 @@
 // From the bytes of a sheet to the bytes of its output (rules 14.6 to 14.11).
+#![tactic(auto)]
+
 mod sheet;
 
 ghost use Rattle.std.specs.Prelude.{◌≡◌};
@@ -11,7 +13,7 @@ use sheet_form::form;
 use sheet_form::form::Form;
 
 // The answer: the number of bytes written, or a refusal of the calling program.
-#[derive(Drop)]
+#[derive(Clone, Copy)]
 pub enum Reply {
     Written(usize),
     Refused(u32),

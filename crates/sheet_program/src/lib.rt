@@ -1,4 +1,6 @@
 // The output of a sheet, on standard output.
+#![tactic(auto)]
+
 use libc::STDOUT_FILENO;
 use market::engine::Engine;
 use sheet_output::Reply;

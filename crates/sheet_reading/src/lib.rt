@@ -1,4 +1,6 @@
 // What the lines of a sheet's bidders and paths say, read into slots, and its days.
+#![tactic(auto)]
+
 ghost use Rattle.std.specs.Prelude.{◌≡◌, ◌+◌, ◌≤◌, min, length, get_or, drop};
 ghost use Rattle.market.specs.Books.{day_number};
 ghost use Rattle.market.specs.Limits.{bidder_limit, path_limit};
@@ -21,7 +23,7 @@ const DAYS: usize = 6;
 const PATHS: u64 = Engine::PATHS as u64;
 
 // A number of 32 bits that was read, and the bytes that it takes together with the byte that ends it: 0 bytes if it is not there.
-#[derive(Drop)]
+#[derive(Clone, Copy)]
 struct Word {
     value: u32,
     used: usize,

@@ -1,4 +1,6 @@
 // The rounds of a sheet, from the book that its open leaves, and the output after them.
+#![tactic(auto)]
+
 ghost use Rattle.std.specs.Prelude.{◌≡◌, true, [], ◌∷◌, ◌≤◌, length};
 ghost use Rattle.market.specs.Answers.{answered};
 ghost use Rattle.market.specs.Books.{every};

@@ -1,5 +1,7 @@
 // A number and the byte that ends it, and numbers one after another, read at a place of a text.
 // What is read at a place is given by the bytes that it takes: 0 if it is not there.
+#![tactic(auto)]
+
 ghost use Rattle.std.specs.Prelude.{◌≡◌, cond, ◌+◌, ◌≤◌, eqb, length, drop};
 ghost use Rattle.text_fields.specs.Fields.{space, starts_with, field_at, numbers_used};
 
@@ -14,7 +16,7 @@ pub const WORD_TOP: u64 = 4_294_967_295;
 pub const AMOUNT_TOP: u64 = 9_999_999_999_999;
 
 // A number that was read, and the bytes that it takes together with the byte that ends it: 0 bytes if it is not there.
-#[derive(Drop)]
+#[derive(Clone, Copy)]
 pub struct Field {
     pub value: u64,
     pub used: usize,

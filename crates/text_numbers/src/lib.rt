@@ -1,4 +1,6 @@
 // Numbers as decimal text: read at a place of a text, and written into a buffer.
+#![tactic(auto)]
+
 ghost use Rattle.std.specs.Prelude.{◌≡◌, ◌+◌, ◌≤◌, length, drop};
 ghost use Rattle.market.specs.Limits.{digit_limit};
 ghost use Rattle.text_numbers.specs.Decimal.{decimal, digits_in, number_at, value_from};
@@ -7,7 +9,7 @@ ghost use Rattle.text_numbers.specs.Put.{Put};
 use market::engine::Engine;
 
 // A number that was read, and how many digits it has: 0 digits if there is no number.
-#[derive(Drop)]
+#[derive(Clone, Copy)]
 pub struct Number {
     pub value: u64,
     pub digits: usize,

@@ -1,4 +1,6 @@
 // Numbers and words written into a buffer, each with the byte that ends it.
+#![tactic(auto)]
+
 ghost use Rattle.std.specs.Prelude.{◌++◌, ◌∷◌, [], ◌+◌, ◌≤◌, length};
 ghost use Rattle.text_numbers.specs.Put.{Put};
 ghost use Rattle.text_fields.specs.Fields.{count_line, field_text, numbers_text};

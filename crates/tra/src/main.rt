@@ -1,4 +1,6 @@
 // The program `tra` (rule 14.12): a sheet from standard input, and its output to standard output.
+#![tactic(auto)]
+
 use libc::STDIN_FILENO;
 use market::engine::Engine;
 

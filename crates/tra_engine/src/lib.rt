@@ -1,4 +1,6 @@
 // The functions of the static library for C and Rust programs; each takes any arguments.
+#![tactic(auto)]
+
 ghost use Rattle.std.specs.Prelude.{◌≡◌};
 ghost use Rattle.market.specs.Limits.{release, rule_edition};
 ghost use Rattle.sheet_output.specs.Output.{answer_to, buffer_after};
