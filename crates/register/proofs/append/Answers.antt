@@ -7,18 +7,13 @@ use mathlib.Core.List.{List}
 use Rattle.register.specs.Words.{entries_of, entry_put}
 use Rattle.register.proofs.WordLaws.{written_back, entries-length}
 use Rattle.register.proofs.EntryLaws.{put_next}
-use borrow.Author.Rules.{rules}
-use Rattle.register.proofs.append.Statement.{statement}
-use Rattle.register.proofs.append.Tie as tie
+use Rattle.register.proofs.append.Goals as goal
 
-returns : tie.Need-returns
+pub returns : goal.returns
 returns c =
-    let a = c.before.before.before.before.before.args in
+    let a = c.args in
     let w = a.words.now in
     let es = entries_of w a.count in
-    c.before.before.put.ensures
+    c.put.ensures
     ∙ ap (λ (l : List ℕ). entry_put l a.count a.entry) (sym (written_back w a.count (omega arith)))
     ∙ put_next w es a.count a.entry (entries-length w a.count)
-
-pub append-spec : {M : Type 1} → statement M
-append-spec = tie.close (tie.spec (λ c κs. search rules) (λ c. search rules) returns)
