@@ -1,9 +1,0 @@
--- By cases on the kind: S and L each have their callee, which ensures the rule's number for that kind.
-use borrow.Author.Rules.{rules}
-use Rattle.call_open_offers.proofs.offer.Goals as goal
-
-pub returns-in-Short : goal.returns-in-Short
-returns-in-Short c = rw (c.enum_told-1.given.1, c.short_offer.ensures)
-
-pub returns-in-Long : goal.returns-in-Long
-returns-in-Long c = rw (c.enum_told-in-Long-1.given.1, c.long_offer.ensures)
