@@ -1,10 +1,9 @@
 -- By the tests in turn: no digit, more than 13 digits, and a zero before another digit are no number (`none_here`,
 -- `long-here`, `zero-here`). Otherwise the digits are right, and `value_at` gives their value (`number-here`).
 use native.Mathlib.Omega.{arith}
-use borrow.Author.Rules.{rules}
-use mathlib.Core.Logic.{⊎_elim}
 use Rattle.text_numbers.proofs.ReadLaws.{digit-here, none_here, long-here, zero-here, number-here}
 use Rattle.text_numbers.proofs.number_at.Goals as goal
+use Rattle.text_numbers.proofs.number_at.Goals.{then-digits-gt1+else-text-at-eq-ZERO, else-digits-gt1}
 
 pub returns-then-digits-eq0 : goal.returns-then-digits-eq0
 returns-then-digits-eq0 c =
@@ -35,4 +34,4 @@ returns c =
     let a = c.args in
     let count = c.digits_at-digits in
     number-here a.text.now a.at count.result count.ensures c.value_at.result c.value_at.ensures c.if-digits-eq0.false (omega arith)
-    (⊎_elim (λ w. λ more e. omega (arith, w.2.left)) (λ w. λ more e. omega arith) c.if-digits-gt1.branch)
+    (elim c.if-digits-gt1.branch [ then-digits-gt1+else-text-at-eq-ZERO w ↦ (λ more e. w.if-text-at-eq-ZERO.false e) | else-digits-gt1 w ↦ (λ more e. omega arith) ])
