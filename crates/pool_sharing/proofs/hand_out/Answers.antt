@@ -1,14 +1,12 @@
 use borrow.Author.Rules.{rules}
-use Prim.Native.Nat.{◌+◌, ◌-◌, ◌≤◌}
-use mathlib.Core.Path.{◌≡◌, ap}
-use lib.ListN.{length}
+use mathlib.Core.Path.{ap}
 use native.Mathlib.Omega.{arith}
 use Rattle.market.proofs.KindLaws.{cents-at, numbers-long, cents-added}
 use Rattle.market.specs.Books.{in_cents}
-use Rattle.market.specs.Limits.{bidder_limit, pool_limit}
+use Rattle.market.specs.Limits.{bidder_limit}
 use Rattle.pool_sharing.proofs.HandOut.{one-more-total}
 use Rattle.pool_sharing.proofs.Totals.{total-at}
-use Rattle.pool_sharing.proofs.Loops.{Handed, handed-start, handed-next, handed-all}
+use Rattle.pool_sharing.proofs.Loops.{handed-start, handed-next, handed-all}
 use Rattle.pool_sharing.specs.Sharing.{total}
 use Rattle.pool_sharing.proofs.hand_out.Goals as goal
 
@@ -27,12 +25,12 @@ loop-given-preserved c =
     let at = c.loop-given in
     let place = c.largest_of-place in
     let made = cents-added at.shares place.result 1 in
-    let more = one-more-total (in_cents at.shares) place.result (omega (arith, numbers-long at.shares bidder_limit at.invariant.1, place.ensures.1)) in (
+    let more = one-more-total (in_cents at.shares) place.result (omega (arith, numbers-long at.shares bidder_limit at.invariant.1, place.ensures.upper_bound)) in (
       search rules,
       search rules,
       omega (arith, ap total made, more, at.invariant.2, c.loop-given-test.true),
       rw made
-          (handed-next a.left.0 a.remainders (in_cents a.floors) at.given at.rems (in_cents at.shares) at.invariant.3 place.result place.ensures.0
+          (handed-next a.left.0 a.remainders (in_cents a.floors) at.given at.rems (in_cents at.shares) at.invariant.3 place.result place.ensures.value
           (search rules)),
     )
 

@@ -1,17 +1,12 @@
 -- The invariant (`Handed`): handing out the cents still to be given, from here, makes what the rule makes of all of
 -- them. Each turn takes one step of the rule (handed-next); the sums fit since shares and cents left stay within the
 -- pool's limit.
-use borrow.Author.Rules.{rules}
 use Prim.Native.Nat.{◌+◌, ◌-◌, ◌≤◌}
-use mathlib.Core.Path.{◌≡◌, ap}
+use mathlib.Core.Path.{◌≡◌}
 use lib.ListN.{length}
-use native.Mathlib.Omega.{arith}
-use Rattle.market.proofs.KindLaws.{cents-at, numbers-long, cents-added}
 use Rattle.market.specs.Books.{in_cents}
 use Rattle.market.specs.Limits.{bidder_limit, pool_limit}
-use Rattle.pool_sharing.proofs.HandOut.{one-more-total}
-use Rattle.pool_sharing.proofs.Totals.{total-at}
-use Rattle.pool_sharing.proofs.Loops.{Handed, handed-start, handed-next, handed-all}
+use Rattle.pool_sharing.proofs.Loops.{Handed}
 use Rattle.pool_sharing.specs.Sharing.{total}
 use Rattle.pool_sharing.proofs.hand_out.Given as goal
 

@@ -20,13 +20,13 @@ returns-then-whole-eq0 c =
     (search rules)
 
 -- the whole cents are within the pool
-least : (p : After-floors_of-floors) → total (in_cents p.floors-of.result) ≤ p.before.before.before.args.pool.0
-least p = let a = p.before.before.before.args in
-    within a.pool.0 a.weights _ p.before.before.column-total.ensures _ p.floors-of.ensures p.before.if1.false
+least : (p : After-floors_of-floors) → total (in_cents p.floors_of-floors.result) ≤ p.args.pool.0
+least p = let a = p.args in
+    within a.pool.0 a.weights _ p.column_total-whole.ensures _ p.floors_of-floors.ensures p.if-whole-eq0.false
 
 -- and so is their sum, which was worked out
-given : (p : After-shares_total-given) → p.shares-total.result.0 ≤ p.before.before.before.before.before.args.pool.0
-given p = omega (arith, ap (λ (x : Cents). x.0) p.shares-total.ensures, least p.before.before)
+given : (p : After-shares_total-given) → p.shares_total-given.result.0 ≤ p.args.pool.0
+given p = omega (arith, ap (λ (x : Cents). x.0) p.shares_total-given.ensures, least p.before.before)
 
 pub hand_out-requires : goal.hand_out-requires
 hand_out-requires c =
