@@ -6,7 +6,7 @@
 # - No line of src/ and specs/ is wider than 160 columns, and no line of proofs/ wider than 200.
 set -euo pipefail
 cd "$(dirname "$0")"
-find crates -name '*.rt' -path '*/src/*' -o -name '*.antt' | LC_ALL=C sort | LC_ALL=C awk '
+find crates -name out -prune -o -name '*.rt' -path '*/src/*' -print -o -name '*.antt' -print | LC_ALL=C sort | LC_ALL=C awk '
 function bad(what) {
     printf "names: %s: %s\n", at, what > "/dev/stderr"
     faults++

@@ -1,20 +1,21 @@
 #!/usr/bin/env bash
 # The tests: the trace's blocks and names, the rules that are cited (each is one of docs/RULES.md, and each of those is cited in specs/ or marked as one
-# that nothing computes), the names and the lines of the tree, the table of crates, the layout of every file, then every crate proved from nothing,
-# every must-fail edit refused, every program run and held to what it must write, and last the static library from outside, beside a second engine.
-# The last line is rt's own count, said again.
-# Crates and edits run six at a time, so that no core waits while the longest of two ends; the largest six need some 15 GB of memory.
+# that nothing computes), the names and the lines of the tree, the table of crates, then every crate's layout and proof, every must-fail edit refused,
+# every program run and held to what it must write, and last the static library from outside, beside a second engine.
+# A must-fail edit that cannot be applied or read fails the tests too. The last line is rt's own count, said again.
 set -euo pipefail
 cd "$(dirname "$0")"
-export RT_JOBS="${RT_JOBS:-6}"
 bash trace.sh
 bash rules.sh
 bash names.sh
 sh rooms.sh
-rt fmt --check
 said=$(mktemp)
 trap 'rm -f "$said"' EXIT
 rt ci | tee "$said"
+if grep -qE '^rt: ok.*[1-9][0-9]* bad' "$said"; then
+    echo "test: a must-fail edit is bad: it shows nothing" >&2
+    exit 1
+fi
 # What is linked was proved above, so it is built here without being proved again.
 bash bench/run.sh
 tail -n 1 "$said"

@@ -105,7 +105,7 @@ function check(ref, label,    path, names, at, n, i, name) {
         return
     }
     if (!at) {
-        if (path ~ /\.(antt|rt|rs)$|\/std(in|out)$/ && path !~ /\/Proof\.antt$/) bad(ref " gives no name")
+        if (path ~ /\.(antt|rt|rs)$|\/std(in|out)$/ && path !~ /\/(Proof|Answers|Invariants)\.antt$/) bad(ref " gives no name")
         return
     }
     if (path ~ /\/std(in|out)$/) {
