@@ -55,7 +55,9 @@ filled_at f xs n blank i k d below within =
     image-at f (take i xs) (replicate (n - i) blank) k d (simp length-take (omega arith)) ∙ ap f (get_or-take i xs k d below)
 
 -- so what one MW earns on a path of a sound book is within that limit
-pub rate-sound : (b : Book) (failed : Bool) (prices : List ℤ) (i : ℕ) → i < b.path_count → sound_book b ≡ true → sound_prices failed prices ≡ true → rate_on failed prices (path_of b i) ≤ zone_price_limit
+pub rate-sound :
+    (b : Book) (failed : Bool) (prices : List ℤ) (i : ℕ) → i < b.path_count → sound_book b ≡ true → sound_prices failed prices ≡ true
+    → rate_on failed prices (path_of b i) ≤ zone_price_limit
 rate-sound b failed prices i below sound priced =
     rate-within (hour_at failed prices (path_of b i)) (path_of b i).direction
     (hour-sound failed prices (path_of b i) priced (zone-within b i sound below))

@@ -40,7 +40,9 @@ amounts-length b day failed prices es =
 
 module _ (day : Day) (failed : Bool) (prices : List ℤ) (amounts : List ℕ) (lists : Lists) where
   -- the account stays within its limit where payout is answered
-  account-within : (b : Book) (es : List Entry) → first_of (hour_refusals day failed prices ++ account_refusals b es day failed prices) ≡ 0 → sound_account (account_paying b day failed prices es) ≡ true
+  account-within :
+      (b : Book) (es : List Entry) → first_of (hour_refusals day failed prices ++ account_refusals b es day failed prices) ≡ 0
+      → sound_account (account_paying b day failed prices es) ≡ true
   account-within b es h =
       let last = account_refusals b es day failed prices in
       not-false (sound_account (account_paying b day failed prices es)) (none-hold last refl (neither-holds (hour_refusals day failed prices) last refl h).1).0

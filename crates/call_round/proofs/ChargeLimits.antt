@@ -206,7 +206,9 @@ charged-limits paths offered bids limits right n m slots =
     (charged-each paths offered bids marks right n m))
 
 -- the charges of a round, by bidder, are at most the bidding limits
-pub charges-within-limits : (b : Book) (bids : List Bid) → right_bids b.path_count bids ≡ true → (i : ℕ) → get_or (charges_of (won_now b bids) (prices_now b bids) bids) i 0 ≤ get_or (bidding_limits b) i 0
+pub charges-within-limits :
+    (b : Book) (bids : List Bid) → right_bids b.path_count bids ≡ true → (i : ℕ)
+    → get_or (charges_of (won_now b bids) (prices_now b bids) bids) i 0 ≤ get_or (bidding_limits b) i 0
 unfolding awards_now
 charges-within-limits b bids right =
     charged-limits b.path_count (offered_now b) bids (bidding_limits b) right bid_limit path_limit bidder_limit

@@ -20,7 +20,9 @@ use Rattle.round_bids.specs.BidRefusals.{sound_header, sound_laminations, above_
 use Rattle.round_entries.specs.Entries.{entry_of, if_won, entries_from}
 
 -- what is known of the first of bids that a round takes
-pub first-right : (paths : ℕ) (earlier : List Bid) (b : Bid) (bs : List Bid) → right_after paths earlier (b ∷ bs) ≡ true → HeaderBounds paths (header_of b) × (right_after paths (b ∷ earlier) bs ≡ true)
+pub first-right :
+    (paths : ℕ) (earlier : List Bid) (b : Bid) (bs : List Bid) → right_after paths earlier (b ∷ bs) ≡ true
+    → HeaderBounds paths (header_of b) × (right_after paths (b ∷ earlier) bs ≡ true)
 first-right paths earlier b bs h =
     let t1 = sound_bid paths b in
     let t2 = not (has_bid b.bidder b.path earlier) in

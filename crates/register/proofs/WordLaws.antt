@@ -128,7 +128,9 @@ written_back words (suc n) h =
     ∙ put_back words n (omega arith)
 
 -- where the words of an entry are
-words-at : (es : List Entry) (rest : List ℕ) (i k : ℕ) (d : Entry) → k < entry_words → i < length es → get_or (all_words es ++ rest) (i * entry_words + k) 0 ≡ get_or (encoded_entry (get_or es i d)) k 0
+words-at :
+    (es : List Entry) (rest : List ℕ) (i k : ℕ) (d : Entry) → k < entry_words → i < length es
+    → get_or (all_words es ++ rest) (i * entry_words + k) 0 ≡ get_or (encoded_entry (get_or es i d)) k 0
 words-at [] rest i k d p h = absurd (let no_place : ⊥ = omega arith in no_place)
 words-at (e ∷ es) rest zero k d p h =
     ap (λ (m : ℕ). get_or (encoded_entry e ++ (all_words es ++ rest)) m 0) (zero-add k)

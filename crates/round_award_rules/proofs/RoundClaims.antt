@@ -45,7 +45,9 @@ pub record InBid (bid path before : ℕ) (l : Claim) : Type 0 where
   pub below : l.price < before
   pub some : 1 ≤ l.price
 
-pub claims-in : (bid path place before : ℕ) (ls : List Lamination) → sound_laminations before ls ≡ true → Each (InBid bid path before) (claims_in bid path place ls) × Strict (claims_in bid path place ls)
+pub claims-in :
+    (bid path place before : ℕ) (ls : List Lamination) → sound_laminations before ls ≡ true
+    → Each (InBid bid path before) (claims_in bid path place ls) × Strict (claims_in bid path place ls)
 claims-in bid path place before [] h = (tt, tt)
 claims-in bid path place before (l ∷ ls) h =
     let p = l.price.0 in

@@ -8,5 +8,7 @@ use Rattle.market.specs.Books.{no_bidder}
 use Rattle.market.specs.declared.book.Bidder.{Bidder}
 use Rattle.round_bidders.specs.Bidders.{billed, billed_to}
 
-pub billed-next : (bidders : List Bidder) (charges : List ℕ) (i : ℕ) → set (billed_to bidders charges i) i (billed (get_or bidders i no_bidder) (get_or charges i 0)) ≡ billed_to bidders charges (i + 1)
+pub billed-next :
+    (bidders : List Bidder) (charges : List ℕ) (i : ℕ)
+    → set (billed_to bidders charges i) i (billed (get_or bidders i no_bidder) (get_or charges i 0)) ≡ billed_to bidders charges (i + 1)
 billed-next bidders charges i = ap (billed_to bidders charges) (let next : suc i ≡ i + 1 = omega arith in next)

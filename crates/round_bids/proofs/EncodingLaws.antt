@@ -40,7 +40,9 @@ module _ (words : List ℕ) where
       ∙ sym (drop-cons words at 0 (omega arith))
 
   -- and so does the header
-  header-back : (at : ℕ) → at + header_words ≤ length words → get_or words at 0 ∷ get_or words (at + 1) 0 ∷ get_or words (at + 2) 0 ∷ get_or words (at + 3) 0 ∷ drop (at + header_words) words ≡ drop at words
+  header-back :
+      (at : ℕ) → at + header_words ≤ length words
+      → get_or words at 0 ∷ get_or words (at + 1) 0 ∷ get_or words (at + 2) 0 ∷ get_or words (at + 3) 0 ∷ drop (at + header_words) words ≡ drop at words
   header-back at fits =
       let e1 : at + 1 ≡ suc at = omega arith in
       let e2 : at + 2 ≡ suc (suc at) = omega arith in

@@ -47,10 +47,17 @@ first-of-bid :
     (paths :
     ℕ) (words : List ℕ) (at more : ℕ) (earlier : List Bid) → at < length words → length words ≤ more + at
     → (n : ℕ)
-    × ((suc n ≡ more) × (first_of (refusals_from more paths words at earlier) ≡ first_of (bid_refusals paths words at earlier ++ refusals_from n paths words (bid_end words at) (bid_at words at ∷ earlier))))
+    × ((suc n ≡ more) × (first_of (refusals_from more paths words at earlier)
+    ≡ first_of (bid_refusals paths words at earlier ++ refusals_from n paths words (bid_end words at) (bid_at words at ∷ earlier))))
 first-of-bid paths words at zero earlier below enough = absurd (let no : ⊥ = omega arith in no)
-first-of-bid paths words at (suc n) earlier below enough =
-    (n, (refl, ap (λ (t : Bool). first_of (cond t [] (bid_refusals paths words at earlier ++ refusals_from n paths words (bid_end words at) (bid_at words at ∷ earlier)))) (lt-leb (length words) at below)))
+first-of-bid paths words at (suc n) earlier below enough = (
+  n,
+  (
+    refl,
+    ap (λ (t : Bool). first_of (cond t [] (bid_refusals paths words at earlier ++ refusals_from n paths words (bid_end words at) (bid_at words at
+        ∷ earlier)))) (lt-leb (length words) at below),
+  ),
+)
 
 -- marking one bidder and path
 set-mark :

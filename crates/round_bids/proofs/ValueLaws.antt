@@ -55,7 +55,8 @@ module _ (words : List ℕ) (at count : ℕ) where
         before = above_prices;
         sound = ap (sound_laminations above_prices) (sym same) ∙ ok;
         adds = ap laminations_value same
-            ∙ (let none : laminations_value (laminations_at words (at + 0 * pair_words) (count - 0)) ≡ 0 + laminations_value (laminations_at words (at + 0 * pair_words) (count - 0)) = omega arith in none);
+            ∙ (let none : laminations_value (laminations_at words (at + 0 * pair_words) (count - 0))
+            ≡ 0 + laminations_value (laminations_at words (at + 0 * pair_words) (count - 0)) = omega arith in none);
         within = omega arith;
       }
 

@@ -23,7 +23,9 @@ pub charge-within : (price won : ℕ) → sound_clearing_price price ≡ true �
 charge-within price won p q = mul-le-mul (leb-true price price_limit p) (leb-true won quantity_limit q)
 
 -- after a credit each amount is at most the old bound plus the charge
-credit-within : (amounts : List ℕ) (bidder charge top i : ℕ) → bidder < length amounts → get_or amounts i 0 ≤ top → get_or amounts bidder 0 ≤ top → get_or (credit amounts bidder charge) i 0 ≤ top + charge
+credit-within :
+    (amounts : List ℕ) (bidder charge top i : ℕ) → bidder < length amounts → get_or amounts i 0 ≤ top → get_or amounts bidder 0 ≤ top
+    → get_or (credit amounts bidder charge) i 0 ≤ top + charge
 credit-within amounts bidder charge top i inside h hb = go (eqb bidder i) refl
   where
     go : (t : Bool) → eqb bidder i ≡ t → get_or (credit amounts bidder charge) i 0 ≤ top + charge

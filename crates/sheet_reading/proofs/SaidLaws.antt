@@ -26,7 +26,8 @@ module _ (limit last : ℕ) (bytes : List ℕ) (at value : ℕ) where
 
   -- a number with others after it
   pub said_more :
-      (k used : ℕ) (vs : List ℕ) → value ≡ (field_at limit space (drop at bytes)).value → used ≡ (field_at limit space (drop at bytes)).used → vs ≡ numbers_said limit last (suc k) (drop (at + used) bytes)
+      (k used : ℕ) (vs : List ℕ) → value ≡ (field_at limit space (drop at bytes)).value → used ≡ (field_at limit space (drop at bytes)).used → vs
+      ≡ numbers_said limit last (suc k) (drop (at + used) bytes)
       → value ∷ vs ≡ numbers_said limit last (suc (suc k)) (drop at bytes)
   said_more k used vs is long rest =
       ap₂ (λ (v : ℕ) (ws : List ℕ). v ∷ ws) is

@@ -54,7 +54,9 @@ module _ (bytes : List ℕ) (at : ℕ) (word : List ℕ) where
         let over : length bytes ≤ at + i = omega arith in
         sym (to.rest ∙ ap₂ starts_with (word-apart h) (drop_of_length-le bytes over))
 
-    byte-decides : i < length word → i < length bytes - at → (t : Bool) → eqb (get_or word i 0) (get_or bytes (at + i) 0) ≡ t → stands ≡ (t && starts_with (drop (i + 1) word) (drop (at + (i + 1)) bytes))
+    byte-decides :
+        i < length word → i < length bytes - at → (t : Bool) → eqb (get_or word i 0) (get_or bytes (at + i) 0) ≡ t
+        → stands ≡ (t && starts_with (drop (i + 1) word) (drop (at + (i + 1)) bytes))
     byte-decides h k t e =
         let next : suc (at + i) ≡ at + (i + 1) = omega arith in
         to.rest
