@@ -13,7 +13,7 @@ use Rattle.market.specs.Books.{every}
 use Rattle.text_numbers.proofs.DecimalLaws.{number-written, number_read, number-length, number-below, decimal-some}
 use Rattle.text_numbers.specs.Decimal.{decimal, is_digit, number_at}
 use Rattle.text_numbers.specs.declared.Number.{Number}
-use Rattle.text_fields.specs.Fields.{space, newline, field_of, field_at, both, numbers_used, numbers_said, line, numbers_line, field_text, numbers_text}
+use Rattle.text_fields.specs.Fields.{space, newline, field_of, field_at, both, numbers_used, numbers_said, numbers_line, field_text, numbers_text}
 use Rattle.text_fields.specs.declared.Field.{Field}
 
 -- ---- Bytes at the front of a text
