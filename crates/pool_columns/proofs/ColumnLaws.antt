@@ -1,6 +1,6 @@
 -- Laws about the columns: which row of their table holds, and what is known where none does.
 use mathlib.Core.Path.{◌≡◌, refl, sym, ◌∙◌, ap}
-use mathlib.Core.Bool.{Bool, true, false, not, ◌&&◌}
+use mathlib.Core.Bool.{Bool, true, false, ◌&&◌}
 use mathlib.Core.List.{List}
 use Prim.Native.Nat.{ℕ, ◌+◌, ◌*◌, ◌/◌, ◌≤◌, ◌<◌}
 use native.Mathlib.Nat.{mul-le-mul_left, div-le_of_le-mul, mul_comm}
@@ -9,7 +9,7 @@ use lib.Dec.{leb, eqb}
 use borrow.Author.Tests.{leb-true, lt-ltb, eq-eqb, ne_eqb, eqb-false, not-false}
 use Rattle.market.proofs.Tables.{none-hold}
 use Rattle.market.proofs.Tests.{left-true, right-true}
-use Rattle.market.specs.Answers.{◌gives◌, first_of}
+use Rattle.market.specs.Answers.{first_of}
 use Rattle.market.specs.Limits.{column_limit}
 use Rattle.pool_sharing.specs.Sharing.{total}
 use Rattle.pool_columns.specs.Pools.{all_charges, provincial_pool, export_pool, provincial_weights, export_weights, columns_within, unshared, column_refusals}
