@@ -7,6 +7,7 @@ use market::answer::{Answer, Outcome};
 use market::book::{Bidder, Book, Direction, Entry, Kind, Period, Route, Stage};
 use market::engine::Engine;
 use market::units::{Cents, Day, Megawatts};
+use std::io;
 
 const WORDS: usize = Engine::REGISTER_WORDS;
 
@@ -63,10 +64,11 @@ fn word(words: &[u32], at: usize) -> u32 {
     if at < words.len() { words[at] } else { 0 }
 }
 
-fn show_words(words: &[u32], end: usize) {
+fn show_words(rt: &impl Print, words: &[u32], end: usize) -> io::Result<()> {
     for at in 0..end {
-        report::number(word(words, at) as u64);
+        report::number(rt, word(words, at) as u64)?;
     }
+    Ok(())
 }
 
 // How many words from a place on are not blank.
@@ -80,36 +82,37 @@ fn strays(words: &[u32], from: usize) -> usize {
     count
 }
 
-fn show_answer(outcome: Outcome) {
-    report::text(b":");
-    report::answer(outcome);
+fn show_answer(rt: &impl Print, outcome: Outcome) -> io::Result<()> {
+    report::text(rt, b":")?;
+    report::answer(rt, outcome)?;
     let said = outcome.answer;
     if let Answer::Drawn(draw) = said {
-        report::text(b" draw");
-        report::amount(draw);
+        report::text(rt, b" draw")?;
+        report::amount(rt, draw)?;
     }
+    Ok(())
 }
 
 // The account, a bidder and the register's count.
-fn show_book(book: Book, number: usize) {
+fn show_book(rt: &impl Print, book: Book, number: usize) -> io::Result<()> {
     let account = book.account;
-    report::text(b" account");
-    report::signed(account);
-    report::text(b" bidder");
+    report::text(rt, b" account")?;
+    report::signed(rt, account)?;
+    report::text(rt, b" bidder")?;
     if number < Engine::BIDDERS {
-        report::bidder(book.bidders[number]);
+        report::bidder(rt, book.bidders[number])?;
     }
-    report::text(b" entries");
-    report::number(book.entries as u64);
+    report::text(rt, b" entries")?;
+    report::number(rt, book.entries as u64)
 }
 
 // The register's first words, and how many words past them are not blank.
-fn show_register(words: &[u32], end: usize) {
-    report::text(b" words");
-    show_words(words, end);
-    report::text(b" past");
-    report::number(strays(words, end) as u64);
-    report::line();
+fn show_register(rt: &impl Print, words: &[u32], end: usize) -> io::Result<()> {
+    report::text(rt, b" words")?;
+    show_words(rt, words, end)?;
+    report::text(rt, b" past")?;
+    report::number(rt, strays(words, end) as u64)?;
+    report::line(rt)
 }
 
 // A register with the two entries of the sheet, pending.
@@ -139,94 +142,103 @@ fn made(book: Book, words: &mut [u32], what: Call) -> Outcome {
 }
 
 // A call, and what it leaves of a bidder and of the register.
-fn run(book: Book, words: &mut [u32], what: Call, number: usize, end: usize) {
+fn run(
+    rt: &impl Print,
+    book: Book,
+    words: &mut [u32],
+    what: Call,
+    number: usize,
+    end: usize,
+) -> io::Result<()> {
     let outcome = made(book, words, what);
-    show_answer(outcome);
-    show_book(outcome.book, number);
-    show_register(words, end);
+    show_answer(rt, outcome)?;
+    show_book(rt, outcome.book, number)?;
+    show_register(rt, words, end)
 }
 
 // A call, and its answer alone.
-fn ask(book: Book, words: &mut [u32], what: Call) {
-    show_answer(made(book, words, what));
+fn ask(rt: &impl Print, book: Book, words: &mut [u32], what: Call) -> io::Result<()> {
+    show_answer(rt, made(book, words, what))
 }
 
 // A call over the two entries of the sheet, and what it leaves of a bidder.
-fn sheet_case(number: usize, what: Call) {
+fn sheet_case(rt: &impl Print, number: usize, what: Call) -> io::Result<()> {
     let mut words = [BLANK; WORDS];
     two_entries(&mut words);
-    run(book_of_sheet(2), &mut words, what, number, 12);
+    run(rt, book_of_sheet(2), &mut words, what, number, 12)
 }
 
-fn default_three() {
-    report::text(b"bidder 3 defaults");
-    sheet_case(3, Call::Default { bidder: 3 });
+fn default_three(rt: &impl Print) -> io::Result<()> {
+    report::text(rt, b"bidder 3 defaults")?;
+    sheet_case(rt, 3, Call::Default { bidder: 3 })
 }
 
-fn default_seven() {
-    report::text(b"bidder 7 defaults");
-    sheet_case(7, Call::Default { bidder: 7 });
+fn default_seven(rt: &impl Print) -> io::Result<()> {
+    report::text(rt, b"bidder 7 defaults")?;
+    sheet_case(rt, 7, Call::Default { bidder: 7 })
 }
 
-fn pay_three(amount: u64) {
-    report::text(b"bidder 3 pays");
-    report::number(amount);
-    sheet_case(3, Call::Pay { bidder: 3, amount });
+fn pay_three(rt: &impl Print, amount: u64) -> io::Result<()> {
+    report::text(rt, b"bidder 3 pays")?;
+    report::number(rt, amount)?;
+    sheet_case(rt, 3, Call::Pay { bidder: 3, amount })
 }
 
 // Bidder 5 with these amounts pays, or defaults, over an empty register.
-fn five_case(given: Bidder, what: Call) {
+fn five_case(rt: &impl Print, given: Bidder, what: Call) -> io::Result<()> {
     let mut words = [BLANK; WORDS];
     run(
+        rt,
         book_parts::with_bidder(book_of_sheet(0), 5, given),
         &mut words,
         what,
         5,
         0,
-    );
+    )
 }
 
-fn pay_five(payer: Bidder, amount: u64) {
-    report::text(b"bidder 5 pays");
-    report::number(amount);
-    five_case(payer, Call::Pay { bidder: 5, amount });
+fn pay_five(rt: &impl Print, payer: Bidder, amount: u64) -> io::Result<()> {
+    report::text(rt, b"bidder 5 pays")?;
+    report::number(rt, amount)?;
+    five_case(rt, payer, Call::Pay { bidder: 5, amount })
 }
 
-fn default_five(debtor: Bidder) {
-    report::text(b"bidder 5 defaults");
-    five_case(debtor, Call::Default { bidder: 5 });
+fn default_five(rt: &impl Print, debtor: Bidder) -> io::Result<()> {
+    report::text(rt, b"bidder 5 defaults")?;
+    five_case(rt, debtor, Call::Default { bidder: 5 })
 }
 
-fn amounts() {
-    pay_five(bidder(40, 500, 0, 0, 0), 0);
-    pay_five(bidder(40, 500, 0, 0, 0), 500);
-    pay_five(bidder(40, 0, 0, 0, 0), 0);
-    pay_five(bidder(40, 0, 0, 0, 0), 1);
-    default_five(bidder(40, 500, 0, 0, 0));
-    default_five(bidder(0, 0, 50, 50, 1_000));
-    default_five(bidder(30, 0, 200, 100, 1_009));
-    default_five(bidder(1_000, 2_000, 5, 5, 10_000));
+fn amounts(rt: &impl Print) -> io::Result<()> {
+    pay_five(rt, bidder(40, 500, 0, 0, 0), 0)?;
+    pay_five(rt, bidder(40, 500, 0, 0, 0), 500)?;
+    pay_five(rt, bidder(40, 0, 0, 0, 0), 0)?;
+    pay_five(rt, bidder(40, 0, 0, 0, 0), 1)?;
+    default_five(rt, bidder(40, 500, 0, 0, 0))?;
+    default_five(rt, bidder(0, 0, 50, 50, 1_000))?;
+    default_five(rt, bidder(30, 0, 200, 100, 1_009))?;
+    default_five(rt, bidder(1_000, 2_000, 5, 5, 10_000))
 }
 
 // The step goes up with a default and down with a payment (rules 8.2 and 8.7).
-fn step_case(step: u32) {
+fn step_case(rt: &impl Print, step: u32) -> io::Result<()> {
     let mut debtor = bidder(10_000, 0, 0, 0, 10);
     debtor.step = step;
-    report::text(b"step");
-    report::number(step as u64);
-    show_step(debtor, Call::Default { bidder: 5 });
+    report::text(rt, b"step")?;
+    report::number(rt, step as u64)?;
+    show_step(rt, debtor, Call::Default { bidder: 5 })?;
     show_step(
+        rt,
         debtor,
         Call::Pay {
             bidder: 5,
             amount: 10,
         },
-    );
-    report::line();
+    )?;
+    report::line(rt)
 }
 
 // The step of bidder 5 after a call.
-fn show_step(debtor: Bidder, what: Call) {
+fn show_step(rt: &impl Print, debtor: Bidder, what: Call) -> io::Result<()> {
     let mut words = [BLANK; WORDS];
     let outcome = made(
         book_parts::with_bidder(book_of_sheet(0), 5, debtor),
@@ -234,58 +246,60 @@ fn show_step(debtor: Bidder, what: Call) {
         what,
     );
     let stepped = book_parts::bidder(outcome.book, 5);
-    report::number(stepped.step as u64);
+    report::number(rt, stepped.step as u64)
 }
 
 // Pay, default and retire over a book and a register.
-fn ask_all(book: Book, words: &mut [u32]) {
+fn ask_all(rt: &impl Print, book: Book, words: &mut [u32]) -> io::Result<()> {
     ask(
+        rt,
         book,
         words,
         Call::Pay {
             bidder: 3,
             amount: 650_000,
         },
-    );
-    ask(book, words, Call::Default { bidder: 3 });
-    ask(book, words, Call::Retire { day: 0 });
-    report::line();
+    )?;
+    ask(rt, book, words, Call::Default { bidder: 3 })?;
+    ask(rt, book, words, Call::Retire { day: 0 })?;
+    report::line(rt)
 }
 
-fn short_register() {
+fn short_register(rt: &impl Print) -> io::Result<()> {
     let mut words = [BLANK; WORDS - 1];
-    report::text(b"6,143 words");
-    ask_all(book_of_sheet(0), &mut words);
+    report::text(rt, b"6,143 words")?;
+    ask_all(rt, book_of_sheet(0), &mut words)
 }
 
 // A call over the two entries of the sheet where the book counts `entries`.
-fn ask_counted(entries: usize, what: Call) {
+fn ask_counted(rt: &impl Print, entries: usize, what: Call) -> io::Result<()> {
     let mut words = [BLANK; WORDS];
     two_entries(&mut words);
-    ask(book_of_sheet(entries), &mut words, what);
+    ask(rt, book_of_sheet(entries), &mut words, what)
 }
 
-fn refusals() {
+fn refusals(rt: &impl Print) -> io::Result<()> {
     let what = Call::Pay {
         bidder: 3,
         amount: 650_000,
     };
-    report::text(b"three counted, 1,025 counted, bidder 32, day 65,536");
-    ask_counted(3, what);
-    ask_counted(1_025, what);
+    report::text(rt, b"three counted, 1,025 counted, bidder 32, day 65,536")?;
+    ask_counted(rt, 3, what)?;
+    ask_counted(rt, 1_025, what)?;
     ask_counted(
+        rt,
         2,
         Call::Pay {
             bidder: 32,
             amount: 0,
         },
-    );
-    ask_counted(2, Call::Retire { day: 65_536 });
-    report::line();
+    )?;
+    ask_counted(rt, 2, Call::Retire { day: 65_536 })?;
+    report::line(rt)
 }
 
 // An open stage: pay and default are refused, retire is not.
-fn open_stage() {
+fn open_stage(rt: &impl Print) -> io::Result<()> {
     let mut words = [BLANK; WORDS];
     let idle = book_of_sheet(0);
     let paths = idle.paths;
@@ -297,16 +311,23 @@ fn open_stage() {
             last: Day(0),
         },
     };
-    report::text(b"open stage");
-    ask_all(book_parts::with_auction(idle, paths, stage), &mut words);
+    report::text(rt, b"open stage")?;
+    ask_all(rt, book_parts::with_auction(idle, paths, stage), &mut words)
 }
 
-fn retire_case(day: u32) {
+fn retire_case(rt: &impl Print, day: u32) -> io::Result<()> {
     let mut words = [BLANK; WORDS];
     three_entries(&mut words);
-    report::text(b"retire");
-    report::number(day as u64);
-    run(book_of_sheet(3), &mut words, Call::Retire { day }, 0, 18);
+    report::text(rt, b"retire")?;
+    report::number(rt, day as u64)?;
+    run(
+        rt,
+        book_of_sheet(3),
+        &mut words,
+        Call::Retire { day },
+        0,
+        18,
+    )
 }
 
 // A full register: every second entry is bidder 3's.
@@ -319,34 +340,34 @@ fn fill(words: &mut [u32])
     }
 }
 
-fn full_register() {
+fn full_register(rt: &impl Print) -> io::Result<()> {
     let mut words = [BLANK; WORDS];
     fill(&mut words);
-    report::text(b"full register, bidder 3 defaults");
+    report::text(rt, b"full register, bidder 3 defaults")?;
     let outcome = call_default::default(book_of_sheet(Engine::ENTRIES), &mut words, 3);
-    show_answer(outcome);
-    report::text(b" entries");
-    report::number(outcome.book.entries as u64);
-    report::text(b" first");
-    show_words(&words, 6);
-    report::line();
+    show_answer(rt, outcome)?;
+    report::text(rt, b" entries")?;
+    report::number(rt, outcome.book.entries as u64)?;
+    report::text(rt, b" first")?;
+    show_words(rt, &words, 6)?;
+    report::line(rt)
 }
 
-pub fn cases() {
-    default_three();
-    default_seven();
-    pay_three(650_000);
-    pay_three(649_999);
-    amounts();
-    step_case(0);
-    step_case(1);
-    step_case(2);
-    step_case(3);
-    short_register();
-    refusals();
-    open_stage();
-    retire_case(9_200);
-    retire_case(9_201);
-    retire_case(65_535);
-    full_register();
+pub fn cases(rt: &impl Print) -> io::Result<()> {
+    default_three(rt)?;
+    default_seven(rt)?;
+    pay_three(rt, 650_000)?;
+    pay_three(rt, 649_999)?;
+    amounts(rt)?;
+    step_case(rt, 0)?;
+    step_case(rt, 1)?;
+    step_case(rt, 2)?;
+    step_case(rt, 3)?;
+    short_register(rt)?;
+    refusals(rt)?;
+    open_stage(rt)?;
+    retire_case(rt, 9_200)?;
+    retire_case(rt, 9_201)?;
+    retire_case(rt, 65_535)?;
+    full_register(rt)
 }

@@ -6,9 +6,11 @@ mod money;
 mod payouts;
 mod pools;
 
-fn main() {
-    money::cases();
-    entries::cases();
-    pools::cases();
-    payouts::cases();
+use std::io;
+
+fn main(rt: HostRuntime) -> io::Result<()> {
+    money::cases(&rt)?;
+    entries::cases(&rt)?;
+    pools::cases(&rt)?;
+    payouts::cases(&rt)
 }

@@ -6,6 +6,7 @@ use market::answer::Outcome;
 use market::book::{Bidder, Book, Direction, Route};
 use market::engine::Engine;
 use market::units::{Balance, Cents};
+use std::io;
 
 const LIMIT: u64 = Engine::MONEY_LIMIT;
 
@@ -24,29 +25,29 @@ fn fresh_book() -> Book {
 }
 
 // A case of a fresh book: how many paths, to which zone.
-fn fresh_case(zone: u32, count: usize) {
-    report::text(b"fresh");
-    report::number(zone as u64);
-    report::number(count as u64);
-    report::text(b":");
+fn fresh_case(rt: &impl Print, zone: u32, count: usize) -> io::Result<()> {
+    report::text(rt, b"fresh")?;
+    report::number(rt, zone as u64)?;
+    report::number(rt, count as u64)?;
+    report::text(rt, b":")?;
     let made = Engine::fresh(routes(zone), count);
-    report::answer(made);
+    report::answer(rt, made)?;
     let book = made.book;
     if book_sound::sound_book(book) {
-        report::text(b" sound");
+        report::text(rt, b" sound")?;
     } else {
-        report::text(b" unsound");
+        report::text(rt, b" unsound")?;
     }
-    report::line();
+    report::line(rt)
 }
 
-fn fresh_cases() {
-    fresh_case(15, 0);
-    fresh_case(15, 1);
-    fresh_case(15, 16);
-    fresh_case(15, 17);
-    fresh_case(16, 1);
-    fresh_case(4_294_967_295, 16);
+fn fresh_cases(rt: &impl Print) -> io::Result<()> {
+    fresh_case(rt, 15, 0)?;
+    fresh_case(rt, 15, 1)?;
+    fresh_case(rt, 15, 16)?;
+    fresh_case(rt, 15, 17)?;
+    fresh_case(rt, 16, 1)?;
+    fresh_case(rt, 4_294_967_295, 16)
 }
 
 // The book with its bidder 3 as given.
@@ -68,136 +69,138 @@ fn bidder_with(cash: u64, applied: u64, letter: u64, hold: u64) -> Bidder {
 }
 
 // The answer, and bidder 3 as the book then has it.
-fn show(outcome: Outcome) {
-    report::text(b":");
-    report::answer(outcome);
+fn show(rt: &impl Print, outcome: Outcome) -> io::Result<()> {
+    report::text(rt, b":")?;
+    report::answer(rt, outcome)?;
     let book = outcome.book;
-    report::bidder(book.bidders[3]);
-    report::line();
+    report::bidder(rt, book.bidders[3])?;
+    report::line(rt)
 }
 
-fn show_funds(funds: Funds) {
+fn show_funds(rt: &impl Print, funds: Funds) -> io::Result<()> {
     match funds {
-        Funds::Cash => {
-            report::text(b" cash");
-        }
-        Funds::Letter => {
-            report::text(b" letter");
-        }
+        Funds::Cash => report::text(rt, b" cash"),
+        Funds::Letter => report::text(rt, b" letter"),
     }
 }
 
-fn deposit_case(book: Book, to: Funds, amount: u64) {
-    report::text(b"deposit");
-    show_funds(to);
-    report::number(amount);
-    show(call_funding::deposit(book, 3, to, Cents(amount)));
+fn deposit_case(rt: &impl Print, book: Book, to: Funds, amount: u64) -> io::Result<()> {
+    report::text(rt, b"deposit")?;
+    show_funds(rt, to)?;
+    report::number(rt, amount)?;
+    show(rt, call_funding::deposit(book, 3, to, Cents(amount)))
 }
 
-fn deposit_cases() {
+fn deposit_cases(rt: &impl Print) -> io::Result<()> {
     let book = book_with(bidder_with(0, 0, 0, 0));
-    deposit_case(book, Funds::Cash, 0);
-    deposit_case(book, Funds::Cash, 1);
-    deposit_case(book, Funds::Cash, LIMIT);
-    deposit_case(book, Funds::Cash, LIMIT + 1);
-    deposit_case(book, Funds::Cash, LARGEST);
-    deposit_case(book, Funds::Letter, LIMIT);
-    deposit_case(book, Funds::Letter, LIMIT + 1);
-    deposit_case(book, Funds::Letter, LARGEST);
+    deposit_case(rt, book, Funds::Cash, 0)?;
+    deposit_case(rt, book, Funds::Cash, 1)?;
+    deposit_case(rt, book, Funds::Cash, LIMIT)?;
+    deposit_case(rt, book, Funds::Cash, LIMIT + 1)?;
+    deposit_case(rt, book, Funds::Cash, LARGEST)?;
+    deposit_case(rt, book, Funds::Letter, LIMIT)?;
+    deposit_case(rt, book, Funds::Letter, LIMIT + 1)?;
+    deposit_case(rt, book, Funds::Letter, LARGEST)
 }
 
 // Applied cash counts towards the limit; a letter does not.
-fn deposit_beside_applied() {
+fn deposit_beside_applied(rt: &impl Print) -> io::Result<()> {
     let book = book_with(bidder_with(100, 900, 5000, 10));
-    deposit_case(book, Funds::Cash, LIMIT - 1000);
-    deposit_case(book, Funds::Cash, LIMIT - 999);
-    deposit_case(book, Funds::Letter, LIMIT - 5000);
-    deposit_case(book, Funds::Letter, LIMIT - 4999);
+    deposit_case(rt, book, Funds::Cash, LIMIT - 1000)?;
+    deposit_case(rt, book, Funds::Cash, LIMIT - 999)?;
+    deposit_case(rt, book, Funds::Letter, LIMIT - 5000)?;
+    deposit_case(rt, book, Funds::Letter, LIMIT - 4999)
 }
 
-fn withdraw_case(book: Book, from: Funds, amount: u64) {
-    report::text(b"withdraw");
-    show_funds(from);
-    report::number(amount);
-    show(call_funding::withdraw(book, 3, from, Cents(amount)));
+fn withdraw_case(rt: &impl Print, book: Book, from: Funds, amount: u64) -> io::Result<()> {
+    report::text(rt, b"withdraw")?;
+    show_funds(rt, from)?;
+    report::number(rt, amount)?;
+    show(rt, call_funding::withdraw(book, 3, from, Cents(amount)))
 }
 
 // Applied cash cannot be withdrawn, and neither can what is held of the letter.
-fn withdraw_cases() {
+fn withdraw_cases(rt: &impl Print) -> io::Result<()> {
     let book = book_with(bidder_with(100, 900, 5000, 10));
-    withdraw_case(book, Funds::Cash, 0);
-    withdraw_case(book, Funds::Cash, 1);
-    withdraw_case(book, Funds::Cash, 100);
-    withdraw_case(book, Funds::Cash, 101);
-    withdraw_case(book, Funds::Cash, LARGEST);
-    withdraw_case(book, Funds::Letter, 4990);
-    withdraw_case(book, Funds::Letter, 4991);
-    withdraw_case(book, Funds::Letter, LARGEST);
+    withdraw_case(rt, book, Funds::Cash, 0)?;
+    withdraw_case(rt, book, Funds::Cash, 1)?;
+    withdraw_case(rt, book, Funds::Cash, 100)?;
+    withdraw_case(rt, book, Funds::Cash, 101)?;
+    withdraw_case(rt, book, Funds::Cash, LARGEST)?;
+    withdraw_case(rt, book, Funds::Letter, 4990)?;
+    withdraw_case(rt, book, Funds::Letter, 4991)?;
+    withdraw_case(rt, book, Funds::Letter, LARGEST)
 }
 
 // The order of refusals: an unsound book (2) before the bidder's number (10) before the amount (11).
-fn order_case(bidder: u32, hold: u64, amount: u64) {
-    report::text(b"order");
-    report::number(bidder as u64);
-    report::number(hold);
-    report::number(amount);
+fn order_case(rt: &impl Print, bidder: u32, hold: u64, amount: u64) -> io::Result<()> {
+    report::text(rt, b"order")?;
+    report::number(rt, bidder as u64)?;
+    report::number(rt, hold)?;
+    report::number(rt, amount)?;
     let book = book_with(bidder_with(100, 0, 50, hold));
-    report::text(b": deposit");
-    report::answer(call_funding::deposit(book, bidder, Funds::Cash, Cents(amount)));
-    report::text(b" withdraw");
-    report::answer(call_funding::withdraw(book, bidder, Funds::Cash, Cents(amount)));
-    report::line();
+    report::text(rt, b": deposit")?;
+    report::answer(
+        rt,
+        call_funding::deposit(book, bidder, Funds::Cash, Cents(amount)),
+    )?;
+    report::text(rt, b" withdraw")?;
+    report::answer(
+        rt,
+        call_funding::withdraw(book, bidder, Funds::Cash, Cents(amount)),
+    )?;
+    report::line(rt)
 }
 
-fn order_cases() {
-    order_case(31, 50, 1);
-    order_case(31, 50, 0);
-    order_case(32, 50, 1);
-    order_case(32, 50, 0);
-    order_case(32, 51, 0);
-    order_case(4_294_967_295, 50, 1);
+fn order_cases(rt: &impl Print) -> io::Result<()> {
+    order_case(rt, 31, 50, 1)?;
+    order_case(rt, 31, 50, 0)?;
+    order_case(rt, 32, 50, 1)?;
+    order_case(rt, 32, 50, 0)?;
+    order_case(rt, 32, 51, 0)?;
+    order_case(rt, 4_294_967_295, 50, 1)
 }
 
 // Rent into an account, and what the account then holds.
-fn rent_case(account: i64, amount: u64) {
-    report::text(b"rent");
-    report::signed(Balance(account));
-    report::number(amount);
-    report::text(b":");
+fn rent_case(rt: &impl Print, account: i64, amount: u64) -> io::Result<()> {
+    report::text(rt, b"rent")?;
+    report::signed(rt, Balance(account))?;
+    report::number(rt, amount)?;
+    report::text(rt, b":")?;
     let mut book = fresh_book();
     let held = Balance(account);
     book.account = held;
     let outcome = call_rent::rent(book, Cents(amount));
-    report::answer(outcome);
+    report::answer(rt, outcome)?;
     let after = outcome.book;
     let holds = after.account;
-    report::signed(holds);
-    report::line();
+    report::signed(rt, holds)?;
+    report::line(rt)
 }
 
-fn rent_cases() {
-    rent_case(0, 0);
-    rent_case(0, 1);
-    rent_case(0, LIMIT);
-    rent_case(0, LIMIT + 1);
-    rent_case(0, LARGEST);
-    rent_case(Engine::ACCOUNT_FLOOR, LIMIT);
-    rent_case(Engine::ACCOUNT_FLOOR - 1, LIMIT);
+fn rent_cases(rt: &impl Print) -> io::Result<()> {
+    rent_case(rt, 0, 0)?;
+    rent_case(rt, 0, 1)?;
+    rent_case(rt, 0, LIMIT)?;
+    rent_case(rt, 0, LIMIT + 1)?;
+    rent_case(rt, 0, LARGEST)?;
+    rent_case(rt, Engine::ACCOUNT_FLOOR, LIMIT)?;
+    rent_case(rt, Engine::ACCOUNT_FLOOR - 1, LIMIT)
 }
 
-fn rent_at_limit() {
-    rent_case(Engine::ACCOUNT_LIMIT - 1, 1);
-    rent_case(Engine::ACCOUNT_LIMIT - 1, 2);
-    rent_case(Engine::ACCOUNT_LIMIT, 1);
-    rent_case(Engine::ACCOUNT_LIMIT + 1, 1);
+fn rent_at_limit(rt: &impl Print) -> io::Result<()> {
+    rent_case(rt, Engine::ACCOUNT_LIMIT - 1, 1)?;
+    rent_case(rt, Engine::ACCOUNT_LIMIT - 1, 2)?;
+    rent_case(rt, Engine::ACCOUNT_LIMIT, 1)?;
+    rent_case(rt, Engine::ACCOUNT_LIMIT + 1, 1)
 }
 
-pub fn cases() {
-    fresh_cases();
-    deposit_cases();
-    deposit_beside_applied();
-    withdraw_cases();
-    order_cases();
-    rent_cases();
-    rent_at_limit();
+pub fn cases(rt: &impl Print) -> io::Result<()> {
+    fresh_cases(rt)?;
+    deposit_cases(rt)?;
+    deposit_beside_applied(rt)?;
+    withdraw_cases(rt)?;
+    order_cases(rt)?;
+    rent_cases(rt)?;
+    rent_at_limit(rt)
 }

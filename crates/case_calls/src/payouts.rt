@@ -4,6 +4,7 @@ use case_tools::report;
 use market::book::{Book, Direction, Entry, Period, Route};
 use market::engine::Engine;
 use market::units::{Balance, Day, Megawatts};
+use std::io;
 
 const WORDS: usize = Engine::REGISTER_WORDS;
 
@@ -57,27 +58,34 @@ fn word(words: &[u64], at: usize) -> u64 {
     if at < words.len() { words[at] } else { 0 }
 }
 
-fn show_amounts(words: &[u64]) {
-    report::number(word(words, 0));
-    report::number(word(words, 1));
-    report::number(word(words, 2));
-    report::number(word(words, 3));
-    report::text(b" past");
-    report::number(word(words, 32));
-    report::number(word(words, 33));
-    report::line();
+fn show_amounts(rt: &impl Print, words: &[u64]) -> io::Result<()> {
+    report::number(rt, word(words, 0))?;
+    report::number(rt, word(words, 1))?;
+    report::number(rt, word(words, 2))?;
+    report::number(rt, word(words, 3))?;
+    report::text(rt, b" past")?;
+    report::number(rt, word(words, 32))?;
+    report::number(rt, word(words, 33))?;
+    report::line(rt)
 }
 
 // One hour: the account before, the day, failed or not, the price at every zone, and at zone 15.
-fn hour(account: i64, day: u32, failed: bool, price: i64, last: i64) {
-    report::text(b"payout");
-    report::number(day as u64);
-    report::signed(Balance(price));
-    report::signed(Balance(last));
+fn hour(
+    rt: &impl Print,
+    account: i64,
+    day: u32,
+    failed: bool,
+    price: i64,
+    last: i64,
+) -> io::Result<()> {
+    report::text(rt, b"payout")?;
+    report::number(rt, day as u64)?;
+    report::signed(rt, Balance(price))?;
+    report::signed(rt, Balance(last))?;
     if failed {
-        report::text(b" failed");
+        report::text(rt, b" failed")?;
     }
-    report::text(b":");
+    report::text(rt, b":")?;
     let words = entries();
     let mut prices = [price; 16];
     prices[15] = last;
@@ -90,95 +98,97 @@ fn hour(account: i64, day: u32, failed: bool, price: i64, last: i64) {
         &prices,
         &mut amounts,
     );
-    report::answer(outcome);
+    report::answer(rt, outcome)?;
     let after = outcome.book;
     let holds = after.account;
-    report::signed(holds);
-    show_amounts(&amounts);
+    report::signed(rt, holds)?;
+    show_amounts(rt, &amounts)
 }
 
-fn workbook() {
-    hour(0, 110, false, 1_000, 0);
-    hour(0, 110, false, -1_500, 0);
-    hour(0, 110, false, -500, 0);
-    hour(0, 110, false, 0, 3);
-    hour(0, 110, true, 1_000, 1_000);
-    hour(0, 110, true, 1_000_001, 1_000_001);
+fn workbook(rt: &impl Print) -> io::Result<()> {
+    hour(rt, 0, 110, false, 1_000, 0)?;
+    hour(rt, 0, 110, false, -1_500, 0)?;
+    hour(rt, 0, 110, false, -500, 0)?;
+    hour(rt, 0, 110, false, 0, 3)?;
+    hour(rt, 0, 110, true, 1_000, 1_000)?;
+    hour(rt, 0, 110, true, 1_000_001, 1_000_001)
 }
 
-fn days() {
-    hour(0, 99, false, 1_000, 0);
-    hour(0, 100, false, 1_000, 0);
-    hour(0, 130, false, 1_000, 0);
-    hour(0, 131, false, 1_000, 0);
-    hour(0, 65_535, false, 1_000, 0);
-    hour(0, 65_536, false, 1_000_001, 0);
+fn days(rt: &impl Print) -> io::Result<()> {
+    hour(rt, 0, 99, false, 1_000, 0)?;
+    hour(rt, 0, 100, false, 1_000, 0)?;
+    hour(rt, 0, 130, false, 1_000, 0)?;
+    hour(rt, 0, 131, false, 1_000, 0)?;
+    hour(rt, 0, 65_535, false, 1_000, 0)?;
+    hour(rt, 0, 65_536, false, 1_000_001, 0)
 }
 
-fn limits() {
-    hour(0, 110, false, 1_000_000, 1_000_000);
-    hour(0, 110, false, -1_000_000, -1_000_000);
-    hour(0, 110, false, 0, 1_000_001);
-    hour(0, 110, false, 0, -1_000_001);
-    hour(Engine::ACCOUNT_FLOOR + 100_000, 110, false, 1_000, 0);
-    hour(Engine::ACCOUNT_FLOOR + 99_999, 110, false, 1_000, 0);
-    hour(Engine::ACCOUNT_FLOOR - 1, 110, false, 1_000, 0);
+fn limits(rt: &impl Print) -> io::Result<()> {
+    hour(rt, 0, 110, false, 1_000_000, 1_000_000)?;
+    hour(rt, 0, 110, false, -1_000_000, -1_000_000)?;
+    hour(rt, 0, 110, false, 0, 1_000_001)?;
+    hour(rt, 0, 110, false, 0, -1_000_001)?;
+    hour(rt, Engine::ACCOUNT_FLOOR + 100_000, 110, false, 1_000, 0)?;
+    hour(rt, Engine::ACCOUNT_FLOOR + 99_999, 110, false, 1_000, 0)?;
+    hour(rt, Engine::ACCOUNT_FLOOR - 1, 110, false, 1_000, 0)
 }
 
 // Lists that are a word too short.
-fn short_register() {
+fn short_register(rt: &impl Print) -> io::Result<()> {
     let words = [7u32; WORDS - 1];
     let prices = [0i64; 16];
     let mut amounts = [9u64; 34];
-    report::text(b"short register:");
-    report::answer(call_payout::payout(
-        book_with(0, 0),
-        &words,
-        Day(0),
-        false,
-        &prices,
-        &mut amounts,
-    ));
-    report::line();
+    report::text(rt, b"short register:")?;
+    report::answer(
+        rt,
+        call_payout::payout(
+            book_with(0, 0),
+            &words,
+            Day(0),
+            false,
+            &prices,
+            &mut amounts,
+        ),
+    )?;
+    report::line(rt)
 }
 
-fn short_prices() {
+fn short_prices(rt: &impl Print) -> io::Result<()> {
     let words = entries();
     let prices = [0i64; 15];
     let mut amounts = [9u64; 34];
-    report::text(b"short prices, failed:");
-    report::answer(call_payout::payout(
-        book_with(0, 0),
-        &words,
-        Day(0),
-        true,
-        &prices,
-        &mut amounts,
-    ));
-    report::line();
+    report::text(rt, b"short prices, failed:")?;
+    report::answer(
+        rt,
+        call_payout::payout(book_with(0, 0), &words, Day(0), true, &prices, &mut amounts),
+    )?;
+    report::line(rt)
 }
 
-fn short_amounts() {
+fn short_amounts(rt: &impl Print) -> io::Result<()> {
     let words = entries();
     let prices = [0i64; 16];
     let mut amounts = [9u64; 31];
-    report::text(b"short amounts:");
-    report::answer(call_payout::payout(
-        book_with(0, 0),
-        &words,
-        Day(0),
-        false,
-        &prices,
-        &mut amounts,
-    ));
-    report::line();
+    report::text(rt, b"short amounts:")?;
+    report::answer(
+        rt,
+        call_payout::payout(
+            book_with(0, 0),
+            &words,
+            Day(0),
+            false,
+            &prices,
+            &mut amounts,
+        ),
+    )?;
+    report::line(rt)
 }
 
-pub fn cases() {
-    workbook();
-    days();
-    limits();
-    short_register();
-    short_prices();
-    short_amounts();
+pub fn cases(rt: &impl Print) -> io::Result<()> {
+    workbook(rt)?;
+    days(rt)?;
+    limits(rt)?;
+    short_register(rt)?;
+    short_prices(rt)?;
+    short_amounts(rt)
 }

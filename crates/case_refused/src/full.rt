@@ -6,6 +6,7 @@ use call_funding::Funds;
 use case_tools::{calls, report, show};
 use market::book::{Book, Kind};
 use market::engine::Engine;
+use std::io;
 
 const WORDS: usize = Engine::REGISTER_WORDS;
 
@@ -34,28 +35,28 @@ pub fn filled(count: usize) -> [u32; WORDS]
 }
 
 // A book with `entries` entries, whose auction is open; 60 MW are offered.
-fn opened(words: &mut [u32], entries: usize) -> Book {
+fn opened(rt: &impl Print, words: &mut [u32], entries: usize) -> io::Result<Book> {
     let given = book_parts::with_entries(calls::fresh(1), entries);
-    let letter = calls::deposit(given, 7, Funds::Letter, 1_000_000);
-    let other = calls::deposit(letter.book, 8, Funds::Letter, 1_000_000);
-    let third = calls::deposit(other.book, 9, Funds::Letter, 1_000_000);
+    let letter = calls::deposit(rt, given, 7, Funds::Letter, 1_000_000)?;
+    let other = calls::deposit(rt, letter.book, 8, Funds::Letter, 1_000_000)?;
+    let third = calls::deposit(rt, other.book, 9, Funds::Letter, 1_000_000)?;
     let quantities = [0u32, 60, 60, 60];
-    let open = calls::open(third.book, words, Kind::Short, 131, 161, &quantities);
-    open.book
+    let open = calls::open(rt, third.book, words, Kind::Short, 131, 161, &quantities)?;
+    Ok(open.book)
 }
 
 // A round of three bids over `entries` entries. Bidder 7 wins by both of its pairs, bidder 8 wins what these leave, if any, and
 // bidder 9 wins nothing.
-fn round(entries: usize, second: u32)
+fn round(rt: &impl Print, entries: usize, second: u32) -> io::Result<()>
     requires { entries ≤ 1024 }
 {
     let mut words = filled(entries);
-    let book = opened(&mut words, entries);
+    let book = opened(rt, &mut words, entries)?;
     let bids = [
         7u32, 0, 1, 2, 1_000, 20, 900, second, 8, 0, 1, 1, 800, 40, 9, 0, 1, 1, 700, 40,
     ];
-    show::book(refusals::lent(book, &mut words, &bids));
-    show_last(&words);
+    show::book(rt, refusals::lent(rt, book, &mut words, &bids)?)?;
+    show_last(rt, &words)
 }
 
 fn wide(n: u32) -> u64 {
@@ -63,30 +64,30 @@ fn wide(n: u32) -> u64 {
 }
 
 // The last two places of the register.
-fn show_last(words: &[u32; WORDS]) {
-    report::text(b"last places");
+fn show_last(rt: &impl Print, words: &[u32; WORDS]) -> io::Result<()> {
+    report::text(rt, b"last places")?;
     for at in 6_132..WORDS {
-        report::number(wide(words[at]));
+        report::number(rt, wide(words[at]))?;
     }
-    report::line();
+    report::line(rt)
 }
 
-fn no_bids() {
+fn no_bids(rt: &impl Print) -> io::Result<()> {
     let mut words = filled(1_024);
-    let book = opened(&mut words, 1_024);
+    let book = opened(rt, &mut words, 1_024)?;
     let none = [0u32; 1];
-    show::book(refusals::lent(book, &mut words, &none[0..0]));
-    show_last(&words);
+    show::book(rt, refusals::lent(rt, book, &mut words, &none[0..0])?)?;
+    show_last(rt, &words)
 }
 
-pub fn cases() {
-    show::heading(b"room for two entries: three bids, two winners");
-    round(1_022, 30);
-    show::heading(b"room for one entry: three bids, one winner");
-    round(1_023, 40);
-    show::heading(b"room for one entry: three bids, two winners");
-    round(1_023, 30);
-    show::heading(b"no room: one winner, and no bids");
-    round(1_024, 40);
-    no_bids();
+pub fn cases(rt: &impl Print) -> io::Result<()> {
+    show::heading(rt, b"room for two entries: three bids, two winners")?;
+    round(rt, 1_022, 30)?;
+    show::heading(rt, b"room for one entry: three bids, one winner")?;
+    round(rt, 1_023, 40)?;
+    show::heading(rt, b"room for one entry: three bids, two winners")?;
+    round(rt, 1_023, 30)?;
+    show::heading(rt, b"no room: one winner, and no bids")?;
+    round(rt, 1_024, 40)?;
+    no_bids(rt)
 }

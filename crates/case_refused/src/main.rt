@@ -4,7 +4,9 @@
 mod full;
 mod refusals;
 
-fn main() {
-    refusals::cases();
-    full::cases();
+use std::io;
+
+fn main(rt: HostRuntime) -> io::Result<()> {
+    refusals::cases(&rt)?;
+    full::cases(&rt)
 }

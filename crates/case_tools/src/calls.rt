@@ -6,6 +6,7 @@ use market::answer::Outcome;
 use market::book::{Book, Direction, Kind, Period, Route};
 use market::engine::Engine;
 use market::units::{Cents, Day};
+use std::io;
 
 // A fresh book: path 0 leads out to zone 2, path 1 in from zone 5.
 pub fn fresh(paths: usize) -> Book {
@@ -54,27 +55,34 @@ fn unlent(book: Book, what: Call) -> Outcome {
 }
 
 // A deposit: its line, and the outcome.
-pub fn deposit(book: Book, bidder: u32, to: Funds, amount: u64) -> Outcome {
-    show::account_call(b"deposit", bidder, to, amount);
+pub fn deposit(
+    rt: &impl Print,
+    book: Book,
+    bidder: u32,
+    to: Funds,
+    amount: u64,
+) -> io::Result<Outcome> {
+    show::account_call(rt, b"deposit", bidder, to, amount)?;
     let cents = Cents(amount);
     let what = Call::Deposit {
         bidder,
         to,
         amount: cents,
     };
-    show::answered(unlent(book, what))
+    show::answered(rt, unlent(book, what))
 }
 
 // An auction opened with the quantities of its paths; the register is lent.
 pub fn open(
+    rt: &impl Print,
     book: Book,
     words: &mut [u32],
     kind: Kind,
     first: u32,
     last: u32,
     quantities: &[u32],
-) -> Outcome {
-    show::open_call(kind, first, last);
+) -> io::Result<Outcome> {
+    show::open_call(rt, kind, first, last)?;
     let period = Period {
         first: Day(first),
         last: Day(last),
@@ -86,52 +94,59 @@ pub fn open(
     let mut answers = [0u64; 1];
     let mut results = [0u64; 1];
     let mut scratch = [0u32; 1];
-    show::answered(engine::call(
-        book,
-        words,
-        what,
-        quantities,
-        &none,
-        &prices,
-        &none,
-        &none,
-        &none,
-        &none,
-        &mut amounts,
-        &mut answers,
-        &mut results,
-        &mut scratch,
-    ))
+    show::answered(
+        rt,
+        engine::call(
+            book,
+            words,
+            what,
+            quantities,
+            &none,
+            &prices,
+            &none,
+            &none,
+            &none,
+            &none,
+            &mut amounts,
+            &mut answers,
+            &mut results,
+            &mut scratch,
+        ),
+    )
 }
 
 // A round of a list of bids; the register and the round's own lists are lent.
 pub fn round(
+    rt: &impl Print,
     book: Book,
     words: &mut [u32],
     bids: &[u32],
     answers: &mut [u64],
     results: &mut [u64],
     scratch: &mut [u32],
-) -> Outcome {
-    report::text(b"round");
-    report::number(bids.len() as u64);
+) -> io::Result<Outcome> {
+    report::text(rt, b"round")?;
+    report::number(rt, bids.len() as u64)?;
     let none = [0u32; 1];
     let prices = [0i64; 1];
     let mut amounts = [0u64; 1];
-    show::answered(engine::call(
-        book,
-        words,
-        Call::Round,
-        &none,
-        bids,
-        &prices,
-        &none,
-        &none,
-        &none,
-        &none,
-        &mut amounts,
-        answers,
-        results,
-        scratch,
-    ))
+    show::answered(
+        rt,
+        engine::call(
+            book,
+            words,
+            Call::Round,
+            &none,
+            bids,
+            &prices,
+            &none,
+            &none,
+            &none,
+            &none,
+            &mut amounts,
+            answers,
+            results,
+            scratch,
+        ),
+    )
 }

@@ -1,6 +1,8 @@
 // The journal program: a journal from standard input; its replies, then the state, to standard output.
 #![tactic(auto)]
 
-fn main() {
-    journal_program::run_input();
+use std::io;
+
+fn main(rt: HostRuntime) -> io::Result<()> {
+    journal_program::run_input(&rt)
 }

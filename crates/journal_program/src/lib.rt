@@ -2,16 +2,16 @@
 // `journal_step::answer_line` makes the replies; these functions only find the lines and write.
 #![tactic(auto)]
 
-ghost use Rattle.std.specs.Prelude.{◌≡◌, ◌+◌, ◌≤◌, length};
+ghost use Rattle.std.specs.Prelude.{◌≡◌, ◌≤◌, IfOk, length};
 ghost use Rattle.market.specs.Limits.{zones};
 ghost use Rattle.journal_reply.specs.Replies.{reply_room};
 ghost use Rattle.journal_state_book.specs.States.{line_room};
 ghost use Rattle.journal_step.specs.LineStep.{word_room};
 
 use journal_step::{Journal, LINE_BYTES};
-use libc::{STDIN_FILENO, STDOUT_FILENO};
 use market::book::{Book, Direction, Entry, Path, Route};
 use market::engine::Engine;
+use std::io;
 
 const INPUT_BYTES: usize = LINE_BYTES + 1;
 
@@ -38,17 +38,18 @@ fn begin() -> Journal {
 }
 
 // Writes the first `used` bytes of a buffer.
-fn write(out: &[u8], used: usize) {
+fn write(rt: &impl Print, out: &[u8], used: usize) -> io::Result<()> {
     if used <= out.len() {
-        io::write_all(STDOUT_FILENO, &out[..used]);
+        rt.write_all(&out[..used])?;
     }
+    Ok(())
 }
 
 // The line that names the engine.
-fn show_engine() {
+fn show_engine(rt: &impl Print) -> io::Result<()> {
     let mut out = [0u8; 256];
     let used = journal_state_book::put_engine(&mut out);
-    write(&out, used);
+    write(rt, &out, used)
 }
 
 // What is read of a line: nothing of one that is too long.
@@ -61,6 +62,7 @@ fn part_read(line: &[u8], over: bool) -> &[u8] {
 
 // One line, and the reply to it. A line that is too long is malformed, as an empty one is.
 fn run_line(
+    rt: &impl Print,
     journal: Journal,
     register: &mut [u32],
     line: &[u8],
@@ -68,19 +70,20 @@ fn run_line(
     words: &mut [u32],
     prices: &mut [i64],
     out: &mut [u8],
-) -> Journal
+) -> io::Result<Journal>
     requires words_len { length words.old ≡ word_room }
     requires prices_len { length prices.old ≡ zones }
     requires reply_room_in_bounds { reply_room ≤ length out.old }
 {
     let read = part_read(line, over);
     let replied = journal_step::answer_line(journal, register, read, words, prices, out);
-    write(out, replied.used);
-    replied.journal
+    write(rt, out, replied.used)?;
+    Ok(replied.journal)
 }
 
 // The whole lines of a text, one after the other.
 fn run_lines(
+    rt: &impl Print,
     journal: Journal,
     register: &mut [u32],
     text: &[u8],
@@ -88,11 +91,11 @@ fn run_lines(
     words: &mut [u32],
     prices: &mut [i64],
     out: &mut [u8],
-) -> Run
+) -> io::Result<Run>
     requires words_len { length words.old ≡ word_room }
     requires prices_len { length prices.old ≡ zones }
     requires reply_room_in_bounds { reply_room ≤ length out.old }
-    ensures { result.at ≤ length text.now }
+    ensures { IfOk result (λ run. run.at ≤ length text.now) }
 {
     let mut state = journal;
     let mut at = 0;
@@ -100,96 +103,117 @@ fn run_lines(
     while at < text.len() {
         let end = case_files::line_end(text, at);
         if end == text.len() {
-            return Run {
+            return Ok(Run {
                 journal: state,
                 at,
                 over: long,
-            };
+            });
         }
         let next = end + 1;
-        state = run_line(state, register, &text[at..end], long, words, prices, out);
+        state = run_line(
+            rt,
+            state,
+            register,
+            &text[at..end],
+            long,
+            words,
+            prices,
+            out,
+        )?;
         long = false;
         at = next;
     }
-    Run {
+    Ok(Run {
         journal: state,
         at,
         over: long,
-    }
+    })
 }
 
 // A path's line, where it is one of the book's.
-fn show_path(i: usize, count: usize, path: Path, out: &mut [u8])
+fn show_path(rt: &impl Print, i: usize, count: usize, path: Path, out: &mut [u8]) -> io::Result<()>
     requires { line_room ≤ length out.old }
 {
     if i < count {
         let used = journal_state_lists::put_path(out, i, path);
-        write(out, used);
+        write(rt, out, used)?;
     }
+    Ok(())
 }
 
-fn show_paths(book: Book, out: &mut [u8])
+fn show_paths(rt: &impl Print, book: Book, out: &mut [u8]) -> io::Result<()>
     requires { line_room ≤ length out.old }
 {
     let paths = book.paths;
     let count = book.path_count;
     for i in 0..Engine::PATHS {
-        show_path(i, count, paths[i], out);
+        show_path(rt, i, count, paths[i], out)?;
     }
+    Ok(())
 }
 
-fn show_bidders(book: Book, out: &mut [u8])
+fn show_bidders(rt: &impl Print, book: Book, out: &mut [u8]) -> io::Result<()>
     requires { line_room ≤ length out.old }
 {
     let bidders = book.bidders;
     for i in 0..Engine::BIDDERS {
         let used = journal_state_lists::put_bidder(out, i, bidders[i]);
-        write(out, used);
+        write(rt, out, used)?;
     }
+    Ok(())
 }
 
 // An entry's line, where it is counted.
-fn show_entry(i: usize, count: usize, entry: Entry, out: &mut [u8])
+fn show_entry(
+    rt: &impl Print,
+    i: usize,
+    count: usize,
+    entry: Entry,
+    out: &mut [u8],
+) -> io::Result<()>
     requires { line_room ≤ length out.old }
 {
     if i < count {
         let used = journal_state_lists::put_entry(out, i, entry);
-        write(out, used);
+        write(rt, out, used)?;
     }
+    Ok(())
 }
 
-fn show_entries(count: usize, register: &[u32], out: &mut [u8])
+fn show_entries(rt: &impl Print, count: usize, register: &[u32], out: &mut [u8]) -> io::Result<()>
     requires { line_room ≤ length out.old }
 {
     for i in 0..register.len() / Engine::ENTRY_WORDS {
-        show_entry(i, count, register::read(register, i), out);
+        show_entry(rt, i, count, register::read(register, i), out)?;
     }
+    Ok(())
 }
 
 // The state, where there is a book.
-fn show_state(journal: Journal, register: &[u32]) {
+fn show_state(rt: &impl Print, journal: Journal, register: &[u32]) -> io::Result<()> {
     if !journal.ready {
-        return;
+        return Ok(());
     }
     let mut out = [0u8; 256];
     let book = journal.book;
     let account = book.account;
     let stage = book.stage;
     let used = journal_state_book::put_book(&mut out, account, book.entries, stage);
-    write(&out, used);
-    show_paths(book, &mut out);
-    show_bidders(book, &mut out);
-    show_entries(book.entries, register, &mut out);
+    write(rt, &out, used)?;
+    show_paths(rt, book, &mut out)?;
+    show_bidders(rt, book, &mut out)?;
+    show_entries(rt, book.entries, register, &mut out)
 }
 
 // A whole journal. Any text after its last byte 10 is a malformed line.
-pub fn run_text(text: &[u8]) {
+pub fn run_text(rt: &impl Print, text: &[u8]) -> io::Result<()> {
     let mut register = [0u32; Engine::REGISTER_WORDS];
     let mut words = [0u32; journal_step::WORD_ROOM];
     let mut prices = [0i64; Engine::ZONES];
     let mut out = [0u8; journal_step::REPLY_ROOM];
-    show_engine();
+    show_engine(rt)?;
     let run = run_lines(
+        rt,
         begin(),
         &mut register,
         text,
@@ -197,30 +221,21 @@ pub fn run_text(text: &[u8]) {
         &mut words,
         &mut prices,
         &mut out,
-    );
+    )?;
     finish(
+        rt,
         run.journal,
         &mut register,
         run.at < text.len(),
         &mut words,
         &mut prices,
         &mut out,
-    );
-}
-
-// Reads more of standard input after the first `filled` bytes of a buffer; returns how many bytes came, 0 at the end of the input
-// or where reading fails.
-fn read_more(buffer: &mut [u8], filled: usize) -> usize
-    requires { filled ≤ length buffer.old }
-    ensures { filled + result ≤ length buffer.old }
-{
-    let rest = &mut buffer[filled..];
-    let got = libc::read(STDIN_FILENO, rest);
-    io::count(got, rest)
+    )
 }
 
 // The whole lines at the front of a buffer, as far as it is filled.
 fn run_front(
+    rt: &impl Print,
     journal: Journal,
     register: &mut [u32],
     buffer: &[u8],
@@ -229,14 +244,15 @@ fn run_front(
     words: &mut [u32],
     prices: &mut [i64],
     out: &mut [u8],
-) -> Run
+) -> io::Result<Run>
     requires filled_in_bounds { filled ≤ length buffer.now }
     requires words_len { length words.old ≡ word_room }
     requires prices_len { length prices.old ≡ zones }
     requires reply_room_in_bounds { reply_room ≤ length out.old }
-    ensures { result.at ≤ filled }
+    ensures { IfOk result (λ run. run.at ≤ filled) }
 {
     run_lines(
+        rt,
         journal,
         register,
         &buffer[..filled],
@@ -261,41 +277,43 @@ fn keep(buffer: &mut [u8], from: usize, filled: usize) -> usize
 
 // The end of a journal: a last line without its byte 10, where there is one, is malformed; then the state.
 fn finish(
+    rt: &impl Print,
     journal: Journal,
     register: &mut [u32],
     open: bool,
     words: &mut [u32],
     prices: &mut [i64],
     out: &mut [u8],
-)
+) -> io::Result<()>
     requires words_len { length words.old ≡ word_room }
     requires prices_len { length prices.old ≡ zones }
     requires reply_room_in_bounds { reply_room ≤ length out.old }
 {
     if !open {
-        show_state(journal, register);
-        return;
+        return show_state(rt, journal, register);
     }
-    let last = run_line(journal, register, b"-", true, words, prices, out);
-    show_state(last, register);
+    let last = run_line(rt, journal, register, b"-", true, words, prices, out)?;
+    show_state(rt, last, register)
 }
 
 // The journal of standard input, read as it comes. A line that fills the buffer is too long, and its bytes are passed over up to
 // the next byte 10. The number of reads is bounded only for the proof that this ends: no input needs that many.
-pub fn run_input() {
+pub fn run_input(rt: &(impl Print + Input)) -> io::Result<()> {
     let mut register = [0u32; Engine::REGISTER_WORDS];
     let mut words = [0u32; journal_step::WORD_ROOM];
     let mut prices = [0i64; Engine::ZONES];
     let mut out = [0u8; journal_step::REPLY_ROOM];
+    let mut reader = rt.reader();
     let mut buffer = [0u8; INPUT_BYTES];
     let mut filled: usize = 0;
     let mut over = false;
     let mut journal = begin();
-    show_engine();
+    show_engine(rt)?;
     for _turn in 0..READS {
-        let got = read_more(&mut buffer, filled);
+        let got = program_input::read_more(&mut reader, &mut buffer, filled)?;
         if got == 0 {
-            finish(
+            return finish(
+                rt,
                 journal,
                 &mut register,
                 over | (0 < filled),
@@ -303,10 +321,10 @@ pub fn run_input() {
                 &mut prices,
                 &mut out,
             );
-            return;
         }
         filled += got;
         let run = run_front(
+            rt,
             journal,
             &mut register,
             &buffer,
@@ -315,10 +333,11 @@ pub fn run_input() {
             &mut words,
             &mut prices,
             &mut out,
-        );
+        )?;
         journal = run.journal;
         let rest = keep(&mut buffer, run.at, filled);
         over = run.over | (rest == INPUT_BYTES);
         filled = rest % INPUT_BYTES;
     }
+    Ok(())
 }
