@@ -14,48 +14,51 @@ use Rattle.call_funding.specs.declared.BidderDeposits.{BidderDeposits}
 use Rattle.call_funding.proofs.DepositLaws.{as_long, take-listed}
 use Rattle.call_funding.proofs.KeptDeposits.{list-asked}
 use borrow.Author.Rules.{rules}
-use Rattle.call_funding.proofs.deposit_all.Statement.{statement}
-use Rattle.call_funding.proofs.deposit_all.Tie as tie
+use Rattle.call_funding.proofs.deposit_all.Goals.{After-none_asked, After-slots_listed-count, Start}
+use Rattle.call_funding.proofs.deposit_all.Goals as goal
 
 -- the bidders that are listed
-module _ (p : tie.After-slots-listed) where
-  abbrev start : tie.Start
+module _ (p : After-slots_listed-count) where
+  abbrev start : Start
   start = p.before.before
 
   abbrev all : List BidderDeposits
   all = start.args.list.bidders
 
-  listed : take p.slots-listed.result all ≡ take start.args.list.count all
+  listed : take p.slots_listed-count.result all ≡ take start.args.list.count all
   listed =
-      ap (λ (n : ℕ). take n all) p.slots-listed.ensures
+      ap (λ (n : ℕ). take n all) p.slots_listed-count.ensures
       ∙ take-listed all start.args.list.count bidder_limit (search (rules, as_long))
 
 -- what is left of them on a book that is not sound, by whether none asks
 unsound :
-    (c : tie.After-none-asked) (t : Bool) → c.none-asked.result ≡ t
+    (c : After-none_asked) (t : Bool) → c.none_asked.result ≡ t
     → cond t (answered (start c.before.before.before).args.book) (refused (start c.before.before.before).args.book 2)
     ≡ list_deposits (start c.before.before.before).args.book (take (start c.before.before.before).args.list.count (all c.before.before.before))
 unsound c t is =
     let p = c.before.before.before in
     let b = (start p).args.book in
-    let bad = sym c.before.before.sound-book.ensures ∙ c.before.if1.false in
-    ap (λ (s : Bool). cond s (answered b) (refused b 2)) (sym is ∙ c.none-asked.ensures)
-    ∙ sym (list-asked b bad (take p.slots-listed.result (all p)))
+    let bad = sym c.sound_book.ensures ∙ c.if-sound_book.false in
+    ap (λ (s : Bool). cond s (answered b) (refused b 2)) (sym is ∙ c.none_asked.ensures)
+    ∙ sym (list-asked b bad (take p.slots_listed-count.result (all p)))
     ∙ ap (list_deposits b) (listed p)
 
-returns : tie.Need-returns
-returns c =
+pub returns-then-sound_book : goal.returns-then-sound_book
+returns-then-sound_book c =
     let p = c.before.before.before in
-    c.deposit-each.ensures ∙ ap (list_deposits (start p).args.book) (listed p)
+    c.deposit_each.ensures ∙ ap (list_deposits (start p).args.book) (listed p)
 
-pub deposit-all-spec : {M : Type 1} → statement M
-deposit-all-spec =
-    tie.close
-    (tie.spec
-    (λ c κs. search rules)
-    (λ c κs. search rules)
-    (λ c κs. (sym c.before.sound-book.ensures ∙ c.if1.true, omega (arith, c.before.before.slots-listed.ensures)))
-    returns
-    (λ c κs. omega (arith, c.before.before.slots-listed.ensures))
-    (λ c. unsound c.before true c.if2.true)
-    (λ c. unsound c.before false c.if2.false))
+pub deposit_each-requires : goal.deposit_each-requires
+deposit_each-requires c = record {
+  book_value = sym c.sound_book.ensures ∙ c.if-sound_book.true;
+  count_le_bidder_limit = omega (arith, c.slots_listed-count.ensures);
+}
+
+pub none_asked-requires : goal.none_asked-requires
+none_asked-requires c = omega (arith, c.slots_listed-count.ensures)
+
+pub returns-then-none_asked : goal.returns-then-none_asked
+returns-then-none_asked c = unsound c.before true c.if-none_asked.true
+
+pub returns : goal.returns
+returns c = unsound c.before false c.if-none_asked.false
