@@ -1,5 +1,5 @@
 -- What a well-formed sheet says, read line by line (rules 14.3, 14.4 and 14.6).
-use Rattle.std.specs.Prelude.{Bool, true, false, List, [], ◌∷◌, ◌++◌, ℕ, zero, suc, ◌+◌, eqb, get_or, drop, take}
+use Rattle.std.specs.Prelude.{Bool, true, false, List, [], ◌∷◌, ◌++◌, ℕ, zero, suc, eqb, get_or, drop, take}
 use Rattle.market.specs.declared.book.Direction.{Direction}
 use Rattle.market.specs.declared.book.Direction.TheVariants.{Export, Import}
 use Rattle.round_bids.specs.Bids.{Bid, bid_at}
