@@ -8,35 +8,30 @@ use Rattle.register.specs.Refusals.{register_refusals}
 use Rattle.call_rules.specs.Steps.{refusal_of}
 use Rattle.call_open.proofs.Cleared.{lent-cleared}
 use Rattle.call_open.specs.Open.{short_quantities, open_refusals, «open»}
-use borrow.Author.Rules.{rules}
-use Rattle.call_open.proofs.refusal.Statement.{statement}
-use Rattle.call_open.proofs.refusal.Tie as tie
+use Rattle.call_open.proofs.refusal.Goals as goal
 
-returns : tie.Need-returns
+pub returns-then-number-ne-NONE : goal.returns-then-number-ne-NONE
 unfolding refusal_of «open»
-returns c = λ kind.
-    let a = c.before.before.before.before.args in
-    let is = c.before.lent-refusal.ensures in
+returns-then-number-ne-NONE c = λ kind.
+    let a = c.args in
+    let is = c.lent_refusal-number.ensures in
     is
     ∙ sym
     (first-stands (short_quantities a.book a.quantities.now ++ register_refusals a.book a.words.now)
-    (open_refusals a.book a.period a.quantities.now) (λ z. c.if1.true (is ∙ z)))
+    (open_refusals a.book a.period a.quantities.now) (λ z. c.if-number-ne-NONE.true (is ∙ z)))
 
-own-refusal-requires : tie.Need-own-refusal-requires
-own-refusal-requires c κs =
-    let a = c.before.before.before.before.args in
+pub own_refusal-requires : goal.own_refusal-requires
+own_refusal-requires c =
+    let a = c.args in
     (lent-cleared a.book a.words.now a.quantities.now
-    (sym c.before.lent-refusal.ensures ∙ c.if1.false)).long
+    (sym c.lent_refusal-number.ensures ∙ c.if-number-ne-NONE.false)).long
 
-returns-2 : tie.Need-returns-2
+pub returns : goal.returns
 unfolding refusal_of «open»
-returns-2 c = λ kind.
-    let a = c.before.before.before.before.before.args in
-    c.own-refusal.ensures
+returns c = λ kind.
+    let a = c.args in
+    c.own_refusal.ensures
     ∙ sym
     (second-decides (short_quantities a.book a.quantities.now ++ register_refusals a.book a.words.now)
     (open_refusals a.book a.period a.quantities.now) refl
-    (sym c.before.before.lent-refusal.ensures ∙ c.before.if1.false))
-
-pub refusal-spec : {M : Type 1} → statement M
-refusal-spec = tie.close (tie.spec (λ c κs. search rules) returns own-refusal-requires returns-2)
+    (sym c.lent_refusal-number.ensures ∙ c.if-number-ne-NONE.false))
