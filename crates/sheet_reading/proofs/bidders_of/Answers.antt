@@ -10,20 +10,14 @@ use Rattle.sheet_form.specs.Slots.{no_bidder_line}
 use Rattle.sheet_form.specs.declared.rows.BidderLine.{BidderLine}
 use Rattle.sheet_form.specs.declared.rows.BidderRows.{BidderRows}
 use Rattle.sheet_reading.proofs.SlotLaws.{section-count, section-slots}
-use borrow.Author.Rules.{rules}
-use Rattle.sheet_reading.proofs.bidders_of.Statement.{statement}
-use Rattle.sheet_reading.proofs.bidders_of.Tie as tie
+use Rattle.sheet_reading.proofs.bidders_of.Goals as goal
 
-returns : tie.Need-returns
+pub returns : goal.returns
 returns c =
-    let a = c.before.before.before.before.args in
-    let said = c.before.before.count-line in
-    let slots = c.bidder-slots in
+    let a = c.args in
+    let said = c.count_line-said in
+    let slots = c.bidder_slots in
     ap₂ (λ (n : ℕ) (xs : List BidderLine). let r : BidderRows = record { count = n; lines = xs } in r)
-    (section-count Bidders bidder_line_at a.bytes.now a.at said.result.used said.result.value said.ensures.0 said.ensures.1.0)
-    (section-slots Bidders bidder_line_at a.bytes.now a.at said.result.used said.result.value said.ensures.0 said.ensures.1.0 bidder_limit no_bidder_line slots.result
+    (section-count Bidders bidder_line_at a.bytes.now a.at said.result.used said.result.value said.ensures.used said.ensures.value)
+    (section-slots Bidders bidder_line_at a.bytes.now a.at said.result.used said.result.value said.ensures.used said.ensures.value bidder_limit no_bidder_line slots.result
     slots.ensures)
-
-pub bidders-of-spec : {M : Type 1} → statement M
-bidders-of-spec =
-    tie.close (tie.spec (λ c κs. search rules) (λ c. search rules) (λ c κs. search rules) returns)
