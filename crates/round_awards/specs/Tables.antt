@@ -1,5 +1,5 @@
 -- Numbers of a round's awards, one for each bid or path: rules 7.9 and 7.10.
-use Rattle.std.specs.Prelude.{List, [], ◌∷◌, ◌++◌, ℕ, zero, suc, ◌+◌}
+use Rattle.std.specs.Prelude.{List, [], ◌∷◌, ◌++◌, ℕ, zero, suc}
 use Rattle.market.specs.Limits.{path_limit, bid_limit}
 use Rattle.round_award_rules.specs.Awards.{Award, won_by, sold_on, price_on}
 
