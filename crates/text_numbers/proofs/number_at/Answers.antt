@@ -3,7 +3,6 @@
 use native.Mathlib.Omega.{arith}
 use Rattle.text_numbers.proofs.ReadLaws.{digit-here, none_here, long-here, zero-here, number-here}
 use Rattle.text_numbers.proofs.number_at.Goals as goal
-use Rattle.text_numbers.proofs.number_at.Goals.{then-digits-gt1+else-text-at-eq-ZERO, else-digits-gt1}
 
 pub returns-then-digits-eq0 : goal.returns-then-digits-eq0
 returns-then-digits-eq0 c =
@@ -34,4 +33,4 @@ returns c =
     let a = c.args in
     let count = c.digits_at-digits in
     number-here a.text.now a.at count.result count.ensures c.value_at.result c.value_at.ensures c.if-digits-eq0.false (omega arith)
-    (elim c.if-digits-gt1.branch [ then-digits-gt1+else-text-at-eq-ZERO w ↦ (λ more e. w.if-text-at-eq-ZERO.false e) | else-digits-gt1 w ↦ (λ more e. omega arith) ])
+    (λ more e. grind arith)
