@@ -7,7 +7,6 @@ use mathlib.Core.List.{List, ◌++◌}
 use Prim.Native.Nat.{ℕ}
 use native.Mathlib.Omega.{arith}
 use lib.IntN.{pos, ◌-ℤ◌}
-use borrow.Author.Tests.{not-true, not-false}
 use Rattle.market.proofs.SoundLaws.{sound-parts}
 use Rattle.market.specs.Answers.{answered, refused, first_of}
 use Rattle.market.specs.Books.{balance, with_account, with_front}
@@ -21,12 +20,11 @@ use Rattle.call_rules.specs.Rule.{Rule}
 use Rattle.call_rules.specs.Steps.{refusal_of, outcome_of, list_after, to_amounts}
 use Rattle.call_payout.proofs.Cleared.{AllLent, lent-cleared, prices-cleared, lent-decides, hour-decides, account-decides}
 use Rattle.call_payout.specs.Payout.{amounts_of, account_paying, short_payout_lists, hour_refusals, payout}
-use borrow.Author.Rules.{rules}
-use Rattle.call_payout.proofs.payout.Statement.{statement}
-use Rattle.call_payout.proofs.payout.Tie as tie
+use Rattle.call_payout.proofs.payout.Goals.{After-sound, Else-first-ne-NONE, Else-second-ne-NONE, Start}
+use Rattle.call_payout.proofs.payout.Goals as goal
 
 -- what the rule leaves
-module _ (s : tie.Start) where
+module _ (s : Start) where
   abbrev rule : Rule
   rule = payout s.args.day s.args.failed s.args.prices.now s.args.lent.now
 
@@ -55,34 +53,34 @@ module _ (s : tie.Start) where
   )
 
 -- nothing lent is refused
-module _ (p : tie.Else1) where
-  abbrev start : tie.Start
-  start = p.before.before.before.before.before
+module _ (p : Else-first-ne-NONE) where
+  abbrev start : Start
+  start = (goal.at.Else-first-ne-NONE p).Start
 
   none : first_of (short_payout_lists start.args.prices.now start.args.lent.now ++ register_refusals start.args.book start.args.words.now) ≡ 0
-  none = sym p.before.lent-refusal.ensures ∙ p.if1.left
+  none = sym p.lent_refusal-first.ensures ∙ p.if-first-ne-NONE.false
 
   lent : AllLent start.args.book start.args.words.now start.args.prices.now start.args.lent.now
   lent = lent-cleared _ _ start.args.day start.args.failed _ _ none
 
 -- nor the hour
-module _ (p : tie.Else2) where
-  abbrev passed : tie.Else1
-  passed = p.before.before
+module _ (p : Else-second-ne-NONE) where
+  abbrev passed : Else-first-ne-NONE
+  passed = (goal.at.Else-second-ne-NONE p).Else-first-ne-NONE
 
   hour-none : first_of (hour_refusals (start passed).args.day (start passed).args.failed (start passed).args.prices.now) ≡ 0
-  hour-none = sym p.before.hour-refusal.ensures ∙ p.if2.left
+  hour-none = sym p.hour_refusal-second.ensures ∙ p.if-second-ne-NONE.false
 
 -- the account's test decides
-module _ (p : tie.After-sound) where
-  abbrev clear : tie.Else2
-  clear = p.before.before.before
+module _ (p : After-sound) where
+  abbrev clear : Else-second-ne-NONE
+  clear = (goal.at.After-sound p).Else-second-ne-NONE
 
-  abbrev s : tie.Start
+  abbrev s : Start
   s = start (passed clear)
 
-  after : p.before.minus.result ≡ balance (account_paying s.args.book s.args.day s.args.failed s.args.prices.now (entries s))
-  after = p.before.minus.ensures ∙ ap (λ (n : ℕ). balance (s.args.book.account.0 -ℤ pos n)) p.before.before.amounts-of.ensures.1.0
+  after : p.minus-after.result ≡ balance (account_paying s.args.book s.args.day s.args.failed s.args.prices.now (entries s))
+  after = p.minus-after.ensures ∙ ap (λ (n : ℕ). balance (s.args.book.account.0 -ℤ pos n)) p.amounts_of-sums.ensures.total_value
 
   number : (t : Bool) → p.sound.result ≡ t → cond (not t) 31 0 ≡ refusal_of (rule s) s.args.book s.args.words.now
   number t is =
@@ -90,59 +88,56 @@ module _ (p : tie.After-sound) where
       sym (ap (λ (t : Bool). cond (not t) 31 0) tested)
       ∙ account-decides s.args.book s.args.words.now s.args.day s.args.failed s.args.prices.now s.args.lent.now (none (passed clear)) (hour-none clear)
 
-returns : tie.Need-returns
+pub returns-then-first-ne-NONE : goal.returns-then-first-ne-NONE
+returns-then-first-ne-NONE c =
+    let a = c.args in
+    let given = c.lent_refusal-first.ensures in
+    let both = refusing (goal.at.returns-then-first-ne-NONE c).Start _ (given ∙ lent-decides a.book a.words.now a.day a.failed a.prices.now a.lent.now (λ z. c.if-first-ne-NONE.true (given ∙ z))) c.if-first-ne-NONE.true in
+    record { outcome = both.0; amounts = both.1 }
+
+pub returns-then-second-ne-NONE : goal.returns-then-second-ne-NONE
+returns-then-second-ne-NONE c =
+    let at = goal.at.returns-then-second-ne-NONE c in
+    let a = c.args in
+    let given = c.hour_refusal-second.ensures in
+    let both = refusing at.Start _ (given ∙ hour-decides a.book a.words.now a.day a.failed a.prices.now a.lent.now (none at.Else-first-ne-NONE) (λ z. c.if-second-ne-NONE.true (given ∙ z))) c.if-second-ne-NONE.true in
+    record { outcome = both.0; amounts = both.1 }
+
+pub amounts_of-sums-requires : goal.amounts_of-sums-requires
+amounts_of-sums-requires c =
+    let at = goal.at.amounts_of-sums-requires c in
+    let a = c.args in
+    record {
+      lent_register = (lent at.Else-first-ne-NONE).register;
+      prices_value = prices-cleared a.book a.words.now a.day a.failed a.prices.now a.lent.now (hour-none at.Else-second-ne-NONE);
+    }
+
+pub minus-after-requires : goal.minus-after-requires
+minus-after-requires c =
+    let p = (goal.at.minus-after-requires c).Else-first-ne-NONE in
+    record {
+      account_value = (sound-parts c.args.book (lent p).register.sound).account;
+      amount_le_account_limit = c.amounts_of-sums.ensures.total_le_account_limit;
+    }
+
+pub returns-then-not-sound : goal.returns-then-not-sound
+returns-then-not-sound c =
+    let at = goal.at.returns-then-not-sound c in
+    let both = refusing at.Start 31 (number at.After-sound false c.if-not-sound.true) (λ z. omega arith) in
+    record { outcome = both.0; amounts = both.1 }
+
+pub returns : goal.returns
 returns c =
-    let s = c.before.before.before.before.before in
-    let a = s.args in
-    let given = c.before.lent-refusal.ensures in
-    refusing s _ (given ∙ lent-decides a.book a.words.now a.day a.failed a.prices.now a.lent.now (λ z. c.if1.true (given ∙ z))) c.if1.true
+    let p = (goal.at.returns c).After-sound in
+    let both = taking (s p) (number p true c.if-not-sound.false) in record {
+      outcome = ap answered (c.with_account.ensures ∙ ap (λ (z : Balance). with_account c.args.book z.0) (after p)) ∙ both.0;
+      amounts = c.write_amounts.ensures
+          ∙ ap (λ (l : List ℕ). with_front l c.args.lent.now) c.amounts_of-sums.ensures.amounts_value
+          ∙ both.1;
+    }
 
-returns-2 : tie.Need-returns-2
-returns-2 c =
-    let p = c.before.before in
-    let a = (start p).args in
-    let given = c.before.hour-refusal.ensures in
-    refusing (start p) _ (given ∙ hour-decides a.book a.words.now a.day a.failed a.prices.now a.lent.now (none p) (λ z. c.if2.true (given ∙ z))) c.if2.true
+pub hour_refusal-second-requires : goal.hour_refusal-second-requires
+hour_refusal-second-requires c = (lent (goal.at.hour_refusal-second-requires c).Else-first-ne-NONE).prices-long
 
-amounts-of-requires : tie.Need-amounts-of-requires
-amounts-of-requires c κs =
-    let a = (start (passed c)).args in
-    ((lent (passed c)).register, prices-cleared a.book a.words.now a.day a.failed a.prices.now a.lent.now (hour-none c))
-
-minus-requires : tie.Need-minus-requires
-minus-requires c κs =
-    let p = passed c.before in
-    ((sound-parts (start p).args.book (lent p).register.sound).account, c.amounts-of.ensures.1.1)
-
-returns-3 : tie.Need-returns-3
-returns-3 c = refusing (s c.before) 31 (number c.before false (not-true _ c.if3.true)) (λ z. omega arith)
-
-returns-4 : tie.Need-returns-4
-returns-4 c =
-    let p = c.before.before.before.before.before.before.before in
-    let both = taking (s p) (number p true (not-false _ c.before.before.before.before.before.before.if3.false)) in (
-      ap answered (c.with-account.ensures ∙ ap (λ (z : Balance). with_account (s p).args.book z.0) (after p)) ∙ both.0,
-      c.before.before.before.write-amounts.ensures
-          ∙ ap (λ (l : List ℕ). with_front l (s p).args.lent.now) p.before.before.amounts-of.ensures.0
-          ∙ both.1,
-    )
-
-pub payout-spec : {M : Type 1} → statement M
-payout-spec =
-    tie.close
-    (tie.spec
-    (λ c κs. search rules)
-    (λ c. search rules)
-    returns
-    (λ c κs. (lent c).prices-long)
-    (λ c. search rules)
-    returns-2
-    amounts-of-requires
-    minus-requires
-    (λ c κs. search rules)
-    (λ c. search rules)
-    returns-3
-    (λ c κs. (lent (passed (clear c.before.before.before))).amounts-long)
-    (λ c κs. search rules)
-    (λ c. search rules)
-    returns-4)
+pub write_amounts-requires : goal.write_amounts-requires
+write_amounts-requires c = (lent (goal.at.write_amounts-requires c).Else-first-ne-NONE).amounts-long
