@@ -1,6 +1,6 @@
 -- The fields of a journal's line (rules 15.1 and 15.3): every field but the first comes after one space. A field read at the front of a text has
 -- its value and how many bytes it takes with that space, 0 where it is not present.
-use Rattle.std.specs.Prelude.{Bool, cond, not, ◌&&◌, List, [], ◌∷◌, ℕ, zero, suc, ◌+◌, ◌-◌, ◌^◌, leb, eqb, ℤ, pos, neg_ℤ, length, drop}
+use Rattle.std.specs.Prelude.{Bool, cond, not, List, [], ◌∷◌, ℕ, zero, suc, ◌+◌, ◌-◌, ◌^◌, leb, eqb, ℤ, pos, neg_ℤ, length, drop}
 use Rattle.text_numbers.specs.Decimal.{digits_in, no_leading_zero, value_from}
 use Rattle.text_fields.specs.Fields.{space, word_top, starts_with}
 use Rattle.text_fields.specs.declared.Field.{Field}
