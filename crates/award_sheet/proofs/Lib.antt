@@ -1,6 +1,4 @@
--- The pieces of an award sheet, how long it can be, and how it is written on a writer.
+-- The pieces of an award sheet, how long it can be, and what two texts written one after the other leave on a writer.
 pub mod AwardLength
-pub mod Calling
-pub mod Line
 pub mod Pieces
-pub mod Sheet
+pub mod WriterLaws

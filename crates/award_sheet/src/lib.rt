@@ -2,6 +2,7 @@
 #![tactic(auto)]
 
 pub mod refusals;
+mod written;
 
 ghost use Rattle.std.specs.Prelude.{◌≡◌, true, [], ◌∷◌, ◌≤◌, length};
 ghost use Rattle.market.specs.Books.{every};
@@ -10,7 +11,7 @@ ghost use Rattle.text_numbers.specs.Put.{Put};
 ghost use Rattle.award_sheet_parts.specs.AwardSheet.{is_bidder, award_text};
 ghost use Rattle.award_sheet.specs.Rounds.{made, Answered};
 
-use award_sheet_writer::{bidders, filled, round, start, title};
+use award_sheet_writer::filled;
 use market::book::Book;
 
 // Writes the award sheet of one round at the front of the buffer, from the round's bids and answers, and from the book after it
@@ -30,10 +31,7 @@ pub fn put_one(
     ensures { Put out.old 0 (award_text (made bids.now answers.now results.now ∷ []) book listed.now)
         out.new result }
 {
-    let paths = book.path_count;
-    let titled = title(start(out), 1);
-    let first = round(titled, bids, answers, results, paths);
-    filled(bidders(first, book, listed))
+    filled(written::one(out, book, listed, bids, answers, results))
 }
 
 // Writes the award sheet of two rounds at the front of the buffer.
@@ -63,9 +61,15 @@ pub fn put_two(
         book listed.now)
         out.new result }
 {
-    let paths = book.path_count;
-    let titled = title(start(out), 2);
-    let first = round(titled, bids, answers, results, paths);
-    let second = round(first, later_bids, later_answers, later_results, paths);
-    filled(bidders(second, book, listed))
+    filled(written::two(
+        out,
+        book,
+        listed,
+        bids,
+        answers,
+        results,
+        later_bids,
+        later_answers,
+        later_results,
+    ))
 }

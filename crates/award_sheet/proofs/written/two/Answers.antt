@@ -1,0 +1,58 @@
+-- Four pieces, the title, the two rounds and the bidders (`two-pieces`): the first three are added by `on_next`, which
+-- leaves the room that the next one needs, and the last by `on_all`.
+use mathlib.Core.Path.{refl}
+use Rattle.text_writing.proofs.PutLaws.{written-room, written-fits}
+use Rattle.award_sheet_parts.specs.AwardSheet.{title_text}
+use Rattle.award_sheet_writer.specs.Written.{answered_text}
+use Rattle.award_sheet.specs.Rounds.{made}
+use Rattle.award_sheet.proofs.Pieces.{two-pieces}
+use Rattle.award_sheet.proofs.WriterLaws.{on_start, on_next, on_all}
+use Rattle.award_sheet.proofs.written.two.Goals as goal
+
+pub title-titled-requires : goal.title-titled-requires
+title-titled-requires c =
+    let a = c.args in
+    let r = made a.bids.now a.answers.now a.results.now in
+    let later = made a.later_bids.now a.later_answers.now a.later_results.now in
+    let begun = on_start c.start.ensures (two-pieces r later a.book a.listed.now) c.requires.listed_in_bounds in
+    written-fits begun.to (title_text 2) _ refl
+
+pub round-first-requires-clause-results_in_bounds :
+    goal.round-first-requires-clause-results_in_bounds
+round-first-requires-clause-results_in_bounds c =
+    let a = c.args in
+    let r = made a.bids.now a.answers.now a.results.now in
+    let later = made a.later_bids.now a.later_answers.now a.later_results.now in
+    let begun = on_start c.start.ensures (two-pieces r later a.book a.listed.now) c.requires.listed_in_bounds in
+    let titled = on_next (title_text 2) begun c.title-titled.ensures in
+    written-fits titled.to (answered_text a.book.path_count a.bids.now a.answers.now a.results.now) _ refl
+
+pub round-second-requires-clause-results_in_bounds :
+    goal.round-second-requires-clause-results_in_bounds
+round-second-requires-clause-results_in_bounds c =
+    let a = c.args in
+    let r = made a.bids.now a.answers.now a.results.now in
+    let later = made a.later_bids.now a.later_answers.now a.later_results.now in
+    let begun = on_start c.start.ensures (two-pieces r later a.book a.listed.now) c.requires.listed_in_bounds in
+    let first = on_next (answered_text a.book.path_count a.bids.now a.answers.now a.results.now) (on_next (title_text 2) begun c.title-titled.ensures) c.round-first.ensures in
+    written-fits first.to (answered_text a.book.path_count a.later_bids.now a.later_answers.now a.later_results.now) _ refl
+
+pub bidders-requires-clause-listed_in_bounds : goal.bidders-requires-clause-listed_in_bounds
+bidders-requires-clause-listed_in_bounds c =
+    let a = c.args in
+    let r = made a.bids.now a.answers.now a.results.now in
+    let later = made a.later_bids.now a.later_answers.now a.later_results.now in
+    let begun = on_start c.start.ensures (two-pieces r later a.book a.listed.now) c.requires.listed_in_bounds in
+    let first = on_next (answered_text a.book.path_count a.bids.now a.answers.now a.results.now) (on_next (title_text 2) begun c.title-titled.ensures) c.round-first.ensures in
+    let second = on_next (answered_text a.book.path_count a.later_bids.now a.later_answers.now a.later_results.now) first c.round-second.ensures in
+    written-room second.to
+
+pub returns : goal.returns
+returns c =
+    let a = c.args in
+    let r = made a.bids.now a.answers.now a.results.now in
+    let later = made a.later_bids.now a.later_answers.now a.later_results.now in
+    let begun = on_start c.start.ensures (two-pieces r later a.book a.listed.now) c.requires.listed_in_bounds in
+    let first = on_next (answered_text a.book.path_count a.bids.now a.answers.now a.results.now) (on_next (title_text 2) begun c.title-titled.ensures) c.round-first.ensures in
+    let second = on_next (answered_text a.book.path_count a.later_bids.now a.later_answers.now a.later_results.now) first c.round-second.ensures in
+    on_all second c.bidders.ensures
