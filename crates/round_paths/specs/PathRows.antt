@@ -1,5 +1,5 @@
 -- The answers of a round for its paths: rule 7.18.
-use Rattle.std.specs.Prelude.{List, [], ◌∷◌, ◌++◌, ℕ, zero, suc, ◌+◌, ◌-◌, get_or}
+use Rattle.std.specs.Prelude.{List, [], ◌∷◌, ◌++◌, ℕ, zero, suc, get_or}
 
 -- rule 7.18: the three words of a path, and the words of the first `n` paths
 abbrev pub path_row : List ℕ → List ℕ → List ℕ → ℕ → List ℕ
