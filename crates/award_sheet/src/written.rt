@@ -47,8 +47,10 @@ pub fn two<'a>(
     requires answered_2 { Answered later_bids.now later_answers.now later_results.now }
     requires path_count_bound { book.path_count ≤ path_limit }
     requires listed_value { every is_bidder listed.now ≡ true }
-    requires listed_in_bounds { length (award_text (made bids.now answers.now results.now ∷ made later_bids.now later_answers.now later_results.now ∷ []) book listed.now) ≤ length out.old }
-    ensures { result ≡ writer_after (empty_writer out.entry) (award_text (made bids.now answers.now results.now ∷ made later_bids.now later_answers.now later_results.now ∷ []) book listed.now) }
+    requires listed_in_bounds { length (award_text (made bids.now answers.now results.now ∷ made later_bids.now later_answers.now later_results.now
+        ∷ []) book listed.now) ≤ length out.old }
+    ensures { result ≡ writer_after (empty_writer out.entry) (award_text (made bids.now answers.now results.now
+        ∷ made later_bids.now later_answers.now later_results.now ∷ []) book listed.now) }
 {
     let paths = book.path_count;
     let titled = title(start(out), 2);

@@ -38,7 +38,8 @@ fn put_bid_answer(out: &mut [u8], at: usize, answers: &[u64], bid: usize) -> usi
 fn put_bid_named(out: &mut [u8], at: usize, words: &[u32], place: usize, bid: usize) -> usize
     requires header_words_in_bounds { place + header_words ≤ length words.now }
     requires bid_lt_bid_limit { bid < bid_limit }
-    requires place_in_bounds { at + length (numbers_text space ((bid + 1) ∷ (bid_at words.now place).bidder ∷ (bid_at words.now place).path ∷ [])) ≤ length out.old }
+    requires place_in_bounds { at + length (numbers_text space ((bid + 1) ∷ (bid_at words.now place).bidder ∷ (bid_at words.now place).path ∷ []))
+        ≤ length out.old }
     ensures { Put out.old at (numbers_text space ((bid + 1) ∷ (bid_at words.now place).bidder ∷ (bid_at words.now place).path ∷ []))
         out.new result }
 {

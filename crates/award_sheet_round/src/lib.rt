@@ -61,7 +61,8 @@ pub fn put_round(
     requires bid_answer_words_in_bounds { bid_answer_words ≤ length answers.now }
     requires path_answer_words_in_bounds { path_answer_words ≤ length results.now }
     requires paths_le_path_limit { paths ≤ path_limit }
-    requires results_in_bounds { at + length (round_text paths (record { bids = bids_of bids.now; answers = answers.now; results = results.now })) ≤ length out.old }
+    requires results_in_bounds { at + length (round_text paths (record { bids = bids_of bids.now; answers = answers.now; results = results.now }))
+        ≤ length out.old }
     ensures { Put out.old at
         (round_text paths (record { bids = bids_of bids.entry.now; answers = answers.now; results = results.now })) out.new
         result }

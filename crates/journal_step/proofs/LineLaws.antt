@@ -45,7 +45,8 @@ pub left-same :
     → step b register call (lent_with list prices (replicate bidder_limit 0) (replicate (cond t bid_answer_words 0) 0) (replicate path_answer_words 0) (replicate (cond t scratch_words 0) 0))
     ≡ left_by b register call list prices
 left-same b register call list prices t e =
-    ap (λ (x : Bool). step b register call (lent_with list prices (replicate bidder_limit 0) (replicate (cond x bid_answer_words 0) 0) (replicate path_answer_words 0) (replicate (cond x scratch_words 0) 0)))
+    ap (λ (x : Bool). step b register call (lent_with list prices (replicate bidder_limit 0) (replicate (cond x bid_answer_words 0) 0)
+    (replicate path_answer_words 0) (replicate (cond x scratch_words 0) 0)))
     (sym e)
 
 -- a fresh book tells of no bids

@@ -98,7 +98,8 @@ module _ (words : List ℕ) (at : ℕ) where
   word k = get_or words (at + k) 0
 
   pub path-same :
-      at + path_size ≤ length words → (direction zone offer sold : Bool) → direction ≡ eqb (get_or words at 0) (direction_number (direction_in (get_or words at 0))) → zone ≡ eqb (word 1) (narrow (word 1))
+      at + path_size ≤ length words → (direction zone offer sold : Bool) → direction
+      ≡ eqb (get_or words at 0) (direction_number (direction_in (get_or words at 0))) → zone ≡ eqb (word 1) (narrow (word 1))
       → offer ≡ eqb (word 2) (narrow (word 2)) → sold ≡ eqb (word 3) (narrow (word 3))
       → (direction && (zone && (offer && sold))) ≡ same_words (take path_size (drop at words)) (path_words (path_at words at))
   path-same room direction zone offer sold d z o s =

@@ -123,5 +123,6 @@ module _ {words won : List ℕ} {period : Period} {before : List ℕ} {counted :
         (e : Entry) → e ≡ entry
         → AddedTo words won period before counted (entries_written register (entries_of register count ++ if_won e)) (count + length (if_won e)) (k + 1) (bid_end words at)
     one-added e is =
-        subst (λ (x : Entry). AddedTo words won period before counted (entries_written register (entries_of register count ++ if_won x)) (count + length (if_won x)) (k + 1) (bid_end words at)) (sym is)
+        subst (λ (x : Entry). AddedTo words won period before counted (entries_written register (entries_of register count ++ if_won x))
+        (count + length (if_won x)) (k + 1) (bid_end words at)) (sym is)
         exactly

@@ -92,7 +92,8 @@ pub returns-then-first-ne-NONE : goal.returns-then-first-ne-NONE
 returns-then-first-ne-NONE c =
     let a = c.args in
     let given = c.lent_refusal-first.ensures in
-    let both = refusing (goal.at.returns-then-first-ne-NONE c).Start _ (given ∙ lent-decides a.book a.words.now a.day a.failed a.prices.now a.lent.now (λ z. c.if-first-ne-NONE.true (given ∙ z))) c.if-first-ne-NONE.true in
+    let both = refusing (goal.at.returns-then-first-ne-NONE c).Start _ (given
+    ∙ lent-decides a.book a.words.now a.day a.failed a.prices.now a.lent.now (λ z. c.if-first-ne-NONE.true (given ∙ z))) c.if-first-ne-NONE.true in
     record { outcome = both.0; amounts = both.1 }
 
 pub returns-then-second-ne-NONE : goal.returns-then-second-ne-NONE
@@ -100,7 +101,8 @@ returns-then-second-ne-NONE c =
     let at = goal.at.returns-then-second-ne-NONE c in
     let a = c.args in
     let given = c.hour_refusal-second.ensures in
-    let both = refusing at.Start _ (given ∙ hour-decides a.book a.words.now a.day a.failed a.prices.now a.lent.now (none at.Else-first-ne-NONE) (λ z. c.if-second-ne-NONE.true (given ∙ z))) c.if-second-ne-NONE.true in
+    let both = refusing at.Start _ (given ∙ hour-decides a.book a.words.now a.day a.failed a.prices.now a.lent.now (none at.Else-first-ne-NONE)
+    (λ z. c.if-second-ne-NONE.true (given ∙ z))) c.if-second-ne-NONE.true in
     record { outcome = both.0; amounts = both.1 }
 
 pub amounts_of-sums-requires : goal.amounts_of-sums-requires

@@ -9,4 +9,5 @@ use Rattle.journal_rows.proofs.put_rows.Given as goal
 
 abbrev pub invariant-loop-k : goal.invariant-loop-k
 invariant-loop-k l =
-    (l.k ≤ l.count) × ((l.from + (l.count - l.k) * l.size ≤ length l.list) × WrittenTo l.initial.out l.at (rows l.mark l.size l.count l.list) (rows l.mark l.size (l.count - l.k) (drop l.from l.list)) l.place l.out)
+    (l.k ≤ l.count) × ((l.from + (l.count - l.k) * l.size ≤ length l.list)
+    × WrittenTo l.initial.out l.at (rows l.mark l.size l.count l.list) (rows l.mark l.size (l.count - l.k) (drop l.from l.list)) l.place l.out)

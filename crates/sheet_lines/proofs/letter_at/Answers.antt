@@ -17,4 +17,7 @@ returns-then-letter-other c =
 pub returns : goal.returns
 returns c =
     let a = c.args in
-    elim c.if-letter-one.branch [ then-letter-one+else-letter-other w ↦ letter-two a.bytes.now a.at a.one a.other w.if-letter-one.true w.if-letter-other.false | else-letter-one w ↦ letter-one a.bytes.now a.at a.one a.other w.if-letter-one.false ]
+    elim c.if-letter-one.branch [
+      | then-letter-one+else-letter-other w ↦ letter-two a.bytes.now a.at a.one a.other w.if-letter-one.true w.if-letter-other.false
+      | else-letter-one w ↦ letter-one a.bytes.now a.at a.one a.other w.if-letter-one.false
+    ]

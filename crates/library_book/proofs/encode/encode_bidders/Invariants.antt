@@ -12,4 +12,5 @@ use Rattle.library_book.proofs.encode.encode_bidders.Given as goal
 
 abbrev pub invariant-loop-i : goal.invariant-loop-i
 invariant-loop-i l =
-    (l.i ≤ bidder_limit) × ((length l.words ≡ length l.initial.words) × ((l.words ≡ laid_to bidder_words bidder_size (λ p. refl) l.initial.words bidders_from l.bidders l.i) × Passed fits_bidder l.bidders l.i))
+    (l.i ≤ bidder_limit) × ((length l.words ≡ length l.initial.words) × ((l.words
+    ≡ laid_to bidder_words bidder_size (λ p. refl) l.initial.words bidders_from l.bidders l.i) × Passed fits_bidder l.bidders l.i))
