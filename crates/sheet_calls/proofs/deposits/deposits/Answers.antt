@@ -7,17 +7,15 @@ use Rattle.market.proofs.KindLaws.{map-take}
 use Rattle.call_funding.specs.Deposits.{list_deposits}
 use Rattle.call_funding.specs.declared.BidderDeposits.{BidderDeposits}
 use Rattle.sheet_calls.specs.Calls.{deposits_of}
-use borrow.Author.Rules.{rules}
-use Rattle.sheet_calls.proofs.deposits.deposits.Statement.{statement}
-use Rattle.sheet_calls.proofs.deposits.deposits.Tie as tie
+use Rattle.sheet_calls.proofs.deposits.deposits.Goals as goal
 
-returns : tie.Need-returns
+pub returns : goal.returns
 returns c =
-    let a = c.before.before.before.args in
+    let a = c.args in
     let count = a.rows.count in
-    c.deposit-all.ensures
-    ∙ ap (λ (l : List BidderDeposits). list_deposits a.book (take count l)) c.before.all-deposits.ensures
+    c.deposit_all.ensures
+    ∙ ap (λ (l : List BidderDeposits). list_deposits a.book (take count l)) c.all_deposits.ensures
     ∙ ap (list_deposits a.book) (sym (map-take deposits_of count a.rows.lines))
 
-pub deposits-spec : {M : Type 1} → statement M
-deposits-spec = tie.close (tie.spec (λ c κs. c.before.requires) (λ c κs. search rules) returns)
+pub all_deposits-requires : goal.all_deposits-requires
+all_deposits-requires c = c.requires
