@@ -9,14 +9,14 @@ use Rattle.market.specs.Books.{cents, in_cents}
 use Rattle.market.specs.Limits.{bidder_limit}
 use Rattle.market.specs.declared.units.Cents.{Cents}
 use Rattle.pool_sharing.proofs.Loops.{Summed, summed-next, summed-all}
-use Rattle.pool_sharing.proofs.shares_total.Goals.{After-struct_known-1}
+use Rattle.pool_sharing.proofs.shares_total.Goals.{In-loop-i}
 use Rattle.pool_sharing.proofs.shares_total.Goals as goal
 
 pub loop-i-init : goal.loop-i-init
 loop-i-init c = (search rules, omega arith)
 
 -- the sum with the share in hand
-module _ (c : After-struct_known-1) where
+module _ (c : In-loop-i) where
   abbrev shares : List Cents
   shares = c.args.shares
 
@@ -32,10 +32,10 @@ module _ (c : After-struct_known-1) where
       (summed-next (in_cents shares) i sum c.loop-i.invariant.1 (omega (arith, numbers-long shares bidder_limit (search rules))))
 
 pub overflow_add-sum : goal.overflow_add-sum
-overflow_add-sum c = record { fits = omega (arith, next c) }
+overflow_add-sum c = record { fits = omega (arith, next (goal.at.overflow_add-sum c).In-loop-i) }
 
 pub loop-i-preserved : goal.loop-i-preserved
-loop-i-preserved c = (search rules, next c)
+loop-i-preserved c = (search rules, next (goal.at.loop-i-preserved c).In-loop-i)
 
 pub returns : goal.returns
 returns c =

@@ -19,7 +19,7 @@ use Rattle.pool_sharing.specs.Sharing.{total}
 use Rattle.call_payout.proofs.EarningLaws.{credited-more, credit-total}
 use Rattle.call_payout.proofs.RateLaws.{earned_by, bounds, rate-low, credits-same, sum_fits, amount-fits}
 use Rattle.call_payout.specs.Payout.{pays_on, credited, amounts_of}
-use Rattle.call_payout.proofs.parts.amounts_of.Goals.{After-earned_by-arg-1, After-earned_by-earned, After-read-entry}
+use Rattle.call_payout.proofs.parts.amounts_of.Goals.{After-earned_by-earned, After-read-entry}
 use Rattle.call_payout.proofs.parts.amounts_of.Goals as goal
 
 paths-few : (b : Book) (words : List ℕ) → LentRegister b words → b.path_count ≤ path_limit
@@ -50,8 +50,7 @@ module _ (p : After-read-entry) where
   bidder-below : p.read-entry.result.bidder < bidder_limit
   bidder-below = rw p.read-entry.ensures within.bidder
 
--- what one MW earns on the entry's path
-module _ (p : After-earned_by-arg-1) where
+  -- what one MW earns on the entry's path
   rate-within : (get_or p.rates_of-rates.result p.read-entry.result.path (cents 0)).0 ≤ zone_price_limit
   rate-within =
       let a = p.args in
@@ -157,7 +156,7 @@ earned_by-earned-requires c =
     let at = goal.at.earned_by-earned-requires c in
     record {
       quantity_le_quantity_limit = rw c.read-entry.ensures (within at.After-read-entry).quantity;
-      rate_le_zone_price_limit = rate-within at.After-earned_by-arg-1;
+      rate_le_zone_price_limit = rate-within at.After-read-entry;
     }
 
 pub offset_bounds-amounts-bidder : goal.offset_bounds-amounts-bidder
