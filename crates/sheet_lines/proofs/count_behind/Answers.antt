@@ -4,7 +4,6 @@
 use native.Mathlib.Omega.{arith}
 use mathlib.Core.Path.{sym, ◌∙◌}
 use lib.ListN.{length}
-use borrow.Author.Tests.{not-true, not-false}
 use Rattle.text_fields.proofs.ReadLaws.{both_most}
 use Rattle.sheet_lines.proofs.LineLaws.{no_word, word-short, count-short, count-value, count-here}
 use borrow.Author.Rules.{rules}
@@ -24,7 +23,7 @@ returns-then-not-starts_with c =
     let a = c.args in
     let word = c.starts_with in
     let count = c.field_at-count in record {
-      used = no_word a.bytes.now a.at a.word.now (sym word.ensures ∙ not-true word.result c.if-not-starts_with.true-raw);
+      used = no_word a.bytes.now a.at a.word.now (sym word.ensures ∙ c.if-not-starts_with.true);
       value = count-value a.bytes.now a.at a.word.now count.result count.ensures.field;
       fits = search rules;
     }
@@ -34,7 +33,7 @@ returns c =
     let a = c.args in
     let word = c.starts_with in
     let count = c.field_at-count in record {
-      used = c.both.ensures ∙ count-here a.bytes.now a.at a.word.now count.result count.ensures.field (sym word.ensures ∙ not-false word.result c.if-not-starts_with.false-raw);
+      used = c.both.ensures ∙ count-here a.bytes.now a.at a.word.now count.result count.ensures.field (sym word.ensures ∙ c.if-not-starts_with.false);
       value = count-value a.bytes.now a.at a.word.now count.result count.ensures.field;
       fits = omega (arith, c.both.ensures, count.ensures.fits, both_most (length a.word.now) count.result.used);
     }

@@ -2,7 +2,6 @@
 -- the text (`letter-fits`), so the five numbers can be read after them, and the rule adds both parts (`route-here`).
 use native.Mathlib.Omega.{arith}
 use mathlib.Core.Path.{sym, ◌∙◌}
-use borrow.Author.Tests.{not-true, not-false}
 use Rattle.text_fields.proofs.ReadLaws.{both_most}
 use Rattle.sheet_lines.proofs.LineLaws.{letter-fits, route-missing, route-here}
 use borrow.Author.Rules.{rules}
@@ -13,7 +12,7 @@ returns-then-not-letter_at c =
     let a = c.args in
     let letter = c.letter_at in
     record {
-      route = route-missing a.bytes.now a.at (sym letter.ensures ∙ not-true letter.result c.if-not-letter_at.true-raw);
+      route = route-missing a.bytes.now a.at (sym letter.ensures ∙ c.if-not-letter_at.true);
       fits = search rules;
     }
 
@@ -22,7 +21,7 @@ numbers_used-requires c =
     let a = c.args in
     let letter = c.letter_at in
     record {
-      at_in_bounds = letter-fits a.bytes.now a.at 88 77 (sym letter.ensures ∙ not-false letter.result c.if-not-letter_at.false-raw);
+      at_in_bounds = letter-fits a.bytes.now a.at 88 77 (sym letter.ensures ∙ c.if-not-letter_at.false);
       le_last = search rules;
     }
 
@@ -31,6 +30,6 @@ returns c =
     let a = c.args in
     let letter = c.letter_at in
     let rest = c.numbers_used in record {
-      route = c.both.ensures ∙ route-here a.bytes.now a.at (sym letter.ensures ∙ not-false letter.result c.if-not-letter_at.false-raw) rest.result rest.ensures.numbers;
+      route = c.both.ensures ∙ route-here a.bytes.now a.at (sym letter.ensures ∙ c.if-not-letter_at.false) rest.result rest.ensures.numbers;
       fits = omega (arith, c.both.ensures, rest.ensures.fits, both_most 2 rest.result);
     }

@@ -3,7 +3,6 @@
 -- are read.
 use native.Mathlib.Omega.{arith}
 use mathlib.Core.Path.{sym, ◌∙◌}
-use borrow.Author.Tests.{not-true, not-false}
 use Rattle.text_fields.specs.Fields.{word_spaced}
 use Rattle.text_fields.proofs.ReadLaws.{starts_fit, both_most}
 use Rattle.sheet_lines.specs.Lines.{title_word}
@@ -16,7 +15,7 @@ returns-then-not-starts_with c =
     let a = c.args in
     let word = c.starts_with in
     record {
-      title = title-missing a.bytes.now (sym word.ensures ∙ not-true word.result c.if-not-starts_with.true-raw);
+      title = title-missing a.bytes.now (sym word.ensures ∙ c.if-not-starts_with.true);
       fits = search rules;
     }
 
@@ -24,7 +23,7 @@ pub letter_at-requires : goal.letter_at-requires
 letter_at-requires c =
     let a = c.args in
     let word = c.starts_with in
-    starts_fit (word_spaced title_word) a.bytes.now (sym word.ensures ∙ not-false word.result c.if-not-starts_with.false-raw)
+    starts_fit (word_spaced title_word) a.bytes.now (sym word.ensures ∙ c.if-not-starts_with.false)
 
 pub returns-then-not-letter_at : goal.returns-then-not-letter_at
 returns-then-not-letter_at c =
@@ -32,7 +31,7 @@ returns-then-not-letter_at c =
     let word = c.starts_with in
     let kind = c.letter_at in
     record {
-      title = kind-missing a.bytes.now (sym word.ensures ∙ not-false word.result c.if-not-starts_with.false-raw) (sym kind.ensures ∙ not-true kind.result c.if-not-letter_at.true-raw);
+      title = kind-missing a.bytes.now (sym word.ensures ∙ c.if-not-starts_with.false) (sym kind.ensures ∙ c.if-not-letter_at.true);
       fits = search rules;
     }
 
@@ -41,7 +40,7 @@ numbers_used-requires c =
     let a = c.args in
     let kind = c.letter_at in
     record {
-      at_in_bounds = letter-fits a.bytes.now 4 83 76 (sym kind.ensures ∙ not-false kind.result c.if-not-letter_at.false-raw);
+      at_in_bounds = letter-fits a.bytes.now 4 83 76 (sym kind.ensures ∙ c.if-not-letter_at.false);
       le_last = search rules;
     }
 
@@ -52,7 +51,7 @@ returns c =
     let kind = c.letter_at in
     let days = c.numbers_used in record {
       title = c.both.ensures
-          ∙ title-here a.bytes.now (sym word.ensures ∙ not-false word.result c.if-not-starts_with.false-raw)
-          (sym kind.ensures ∙ not-false kind.result c.if-not-letter_at.false-raw) days.result days.ensures.numbers;
+          ∙ title-here a.bytes.now (sym word.ensures ∙ c.if-not-starts_with.false)
+          (sym kind.ensures ∙ c.if-not-letter_at.false) days.result days.ensures.numbers;
       fits = omega (arith, c.both.ensures, days.ensures.fits, both_most 6 days.result);
     }
