@@ -16,7 +16,7 @@ pub fn read_more(reader: &mut impl Read, buffer: &mut [u8], filled: usize) -> io
 
 // Reads until a buffer is full or the input ends; returns how many bytes came.
 pub fn read_full(reader: &mut impl Read, buffer: &mut [u8]) -> io::Result<usize>
-    ensures { IfOk result (λ count. count ≤ length buffer.old) }
+    ensures { IfOk result (λ count. count ≤ length buffer.new) }
 {
     let mut filled = 0;
     while filled < buffer.len() {
