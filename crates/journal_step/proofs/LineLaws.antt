@@ -1,14 +1,12 @@
 -- Laws about a line of a journal: what a call is lent, and the line of a fresh book.
 use mathlib.Core.Path.{◌≡◌, refl, sym, ◌∙◌, ap}
 use mathlib.Core.Bool.{Bool, true, false, cond}
-use mathlib.Core.List.{List, [], ◌∷◌}
-use mathlib.Core.Logic.{⊎_elim}
+use mathlib.Core.List.{List, []}
+use mathlib.Core.Logic.{◌⊎◌, ⊎_elim}
 use Prim.Native.Nat.{ℕ, zero, suc}
 use native.Mathlib.Omega.{arith}
 use lib.IntN.{ℤ}
 use lib.ListN.{length, drop, replicate}
-use denote.Enum.Declared.{tag_of}
-use types.Run.{OneOf}
 use Rattle.market.specs.Answers.{bids_in, first_of, decided, answered}
 use Rattle.market.specs.Fresh.{fresh_refusals, fresh_book, no_book, fresh}
 use Rattle.market.specs.Limits.{bidder_limit, bid_answer_words, path_answer_words, scratch_words}
@@ -28,7 +26,6 @@ use Rattle.journal_fresh_line.specs.declared.FreshLine.{FreshLine}
 use Rattle.journal_step.specs.declared.Journal.{Journal}
 use Rattle.journal_step.specs.declared.answers.Tell.{Tell}
 use Rattle.journal_step.specs.declared.answers.Tell.TheVariants as tells
-use Rattle.journal_step.specs.contracts.answers.Tell.{the_type}
 use Rattle.journal_step.specs.LineStep.{column, lent_with, is_round, left_by, offers_of, tell_by, text_by, call_text, Stepped}
 use Rattle.journal_step.specs.LineStep.{turned_away, fresh_state, fresh_by, fresh_step, call_line_step, fresh_word, is_fresh, line_step}
 
@@ -85,14 +82,8 @@ module _ (o : Outcome) (amounts answers results : List ℕ) (count : ℕ) (e : c
   counted how list = ap (λ (n : ℕ). reply_text o.answer how list answers n results) e
 
   -- the first arm is that of its two cases without a list
-  pub text-bare : OneOf (0 ∷ 2 ∷ []) (tag_of the_type tell) → reply_text o.answer Nothing [] answers count results ≡ text_by tell o amounts answers results
-  text-bare one = counted Nothing [] ∙ go tell one
-    where
-      go : (t : Tell) → OneOf (0 ∷ 2 ∷ []) (tag_of the_type t) → text_by tells.Nothing o amounts answers results ≡ text_by t o amounts answers results
-      go tells.Nothing h = refl
-      go tells.Offers h = absurd (⊎_elim (λ e. omega arith) (λ e. omega arith) h)
-      go tells.Awards h = refl
-      go tells.Amounts h = absurd (⊎_elim (λ e. omega arith) (λ e. omega arith) h)
+  pub text-bare : (tell ≡ tells.Nothing) ⊎ (tell ≡ tells.Awards) → reply_text o.answer Nothing [] answers count results ≡ text_by tell o amounts answers results
+  text-bare one = counted Nothing [] ∙ ⊎_elim (told tells.Nothing) (told tells.Awards) one
 
   pub text-offers : tell ≡ tells.Offers → (list : List ℕ) → list ≡ offers_of o.book → reply_text o.answer Listed list answers count results ≡ text_by tell o amounts answers results
   text-offers is list l =

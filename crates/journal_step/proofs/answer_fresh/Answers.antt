@@ -1,0 +1,72 @@
+-- Three ways out: a malformed line is turned away (fresh-away); the engine refuses the routes and the journal stays
+-- (fresh_kept); the engine answers and its book is taken (fresh-taken). No fresh book answers bids, so its reply needs
+-- no list (fresh-none).
+use borrow.Author.Rules.{rules}
+use native.Mathlib.Omega.{arith}
+use Rattle.journal_fresh_line.specs.FreshLines.{fresh_said}
+use mathlib.Core.Path.{◌≡◌, sym, ◌∙◌, ap}
+use mathlib.Core.List.{[]}
+use lib.ListN.{length}
+use borrow.Author.Tests.{not-true, not-false}
+use Rattle.market.specs.Answers.{answer_number}
+use Rattle.market.specs.declared.answer.Outcome.{Outcome}
+use Rattle.text_numbers.specs.Put.{put_at}
+use Rattle.market.specs.Answers.{bids_in}
+use Rattle.text_writing.proofs.PutLaws.{put_front}
+use Rattle.journal_step.specs.LineStep.{Stepped, fresh_by, fresh_step, turned_away}
+use Rattle.journal_step.proofs.LineLaws.{fresh-none, fresh-away, fresh-made, fresh_kept, fresh-taken}
+use Rattle.journal_step.proofs.answer_fresh.Goals as goal
+
+pub returns-then-not-said : goal.returns-then-not-said
+returns-then-not-said c =
+    let a = c.args in
+    let said = c.fresh_said-said in
+    let away = c.turn_away in
+    let s : turned_away a.journal [] ≡ fresh_step a.journal [] (fresh_said a.text.now) =
+    sym (fresh-away a.journal [] said.result (not-true said.result.present c.if-not-said.true)) ∙ ap (fresh_step a.journal []) said.ensures in record {
+      journal = away.ensures.journal ∙ ap (λ (x : Stepped). x.journal) s;
+      used = away.ensures.used ∙ ap (λ (x : Stepped). length x.text) s;
+      bytes = away.ensures.bytes ∙ ap (λ (x : Stepped). put_at a.out.now 0 x.text) s;
+    }
+
+pub put_reply-used-requires : goal.put_reply-used-requires
+put_reply-used-requires c =
+    let said = c.fresh_said-said in
+    let none : bids_in c.fresh-outcome.result.answer ≡ 0 =
+    ap (λ (o : Outcome). bids_in o.answer) c.fresh-outcome.ensures ∙ fresh-none said.result.routes said.result.count in
+    record {
+      reply_room_in_bounds = search rules;
+      list_len_bound = search rules;
+      answer_bound = (omega arith, omega arith);
+      paths_le_path_limit = (search rules, search rules);
+    }
+
+pub returns-then-number-ne-NONE : goal.returns-then-number-ne-NONE
+returns-then-number-ne-NONE c =
+    let a = c.args in
+    let said = c.fresh_said-said in
+    let made = c.fresh-outcome in
+    let put = c.put_reply-used in
+    let s : fresh_by a.journal [] made.result ≡ fresh_step a.journal [] (fresh_said a.text.now) =
+    ap (fresh_by a.journal []) made.ensures
+    ∙ sym (fresh-made a.journal [] said.result (not-false said.result.present c.if-not-said.false))
+    ∙ ap (fresh_step a.journal []) said.ensures in record {
+      journal = sym (fresh_kept a.journal (answer_number made.result.answer) made.result.book (λ z. c.if-number-ne-NONE.true (c.number.ensures ∙ z))) ∙ ap (λ (x : Stepped). x.journal) s;
+      used = put_front put.ensures ∙ ap (λ (x : Stepped). length x.text) s;
+      bytes = put.ensures.bytes ∙ ap (λ (x : Stepped). put_at a.out.now 0 x.text) s;
+    }
+
+pub returns : goal.returns
+returns c =
+    let a = c.args in
+    let said = c.fresh_said-said in
+    let made = c.fresh-outcome in
+    let put = c.put_reply-used in
+    let s : fresh_by a.journal [] made.result ≡ fresh_step a.journal [] (fresh_said a.text.now) =
+    ap (fresh_by a.journal []) made.ensures
+    ∙ sym (fresh-made a.journal [] said.result (not-false said.result.present c.if-not-said.false))
+    ∙ ap (fresh_step a.journal []) said.ensures in record {
+      journal = sym (fresh-taken a.journal (answer_number made.result.answer) made.result.book (omega (arith, c.number.ensures))) ∙ ap (λ (x : Stepped). x.journal) s;
+      used = put_front put.ensures ∙ ap (λ (x : Stepped). length x.text) s;
+      bytes = put.ensures.bytes ∙ ap (λ (x : Stepped). put_at a.out.now 0 x.text) s;
+    }
