@@ -12,8 +12,10 @@ answer_ready-requires c =
     let a = c.args in
     let h = c.line_said-said.ensures in
     let in_called = c.in-Called in record {
-      count_in_bounds = words-room a.journal a.register.now a.line.now a.words.now a.prices.now c.requires.words_len c.requires.prices_len h in_called.call in_called.count in_called.priced in_called.is;
-      priced_in_bounds = prices-room a.journal a.register.now a.line.now a.words.now a.prices.now c.requires.words_len c.requires.prices_len h in_called.call in_called.count in_called.priced in_called.is;
+      count_in_bounds = words-room a.journal a.register.now a.line.now a.words.now a.prices.now c.requires.words_len c.requires.prices_len h
+          in_called.call in_called.count in_called.priced in_called.is;
+      priced_in_bounds = prices-room a.journal a.register.now a.line.now a.words.now a.prices.now c.requires.words_len c.requires.prices_len h
+          in_called.call in_called.count in_called.priced in_called.is;
       reply_room_in_bounds = c.requires.reply_room_in_bounds;
     }
 
