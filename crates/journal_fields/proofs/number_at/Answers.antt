@@ -4,7 +4,6 @@ use borrow.Author.Rules.{rules}
 use native.Mathlib.Omega.{arith}
 use mathlib.Core.Path.{sym, ◌∙◌}
 use mathlib.Core.List.{[], ◌∷◌}
-use borrow.Author.Tests.{not-true, not-false}
 use Rattle.text_fields.specs.Fields.{space}
 use Rattle.journal_fields.proofs.FieldLaws.{word_room, number-absent, number-empty, number-here}
 use Rattle.journal_fields.proofs.number_at.Goals as goal
@@ -14,7 +13,7 @@ returns-then-not-starts_with c =
     let a = c.args in
     let word = c.starts_with in
     record {
-      field = number-absent a.line.now a.at a.limit (sym word.ensures ∙ not-true word.result c.if-not-starts_with.true-raw);
+      field = number-absent a.line.now a.at a.limit (sym word.ensures ∙ c.if-not-starts_with.true);
       fits = search rules;
     }
 
@@ -22,14 +21,14 @@ pub numeral_at-found-requires : goal.numeral_at-found-requires
 numeral_at-found-requires c =
     let a = c.args in
     let word = c.starts_with in
-    word_room (space ∷ []) a.line.now a.at (search rules) (sym word.ensures ∙ not-false word.result c.if-not-starts_with.false-raw)
+    word_room (space ∷ []) a.line.now a.at (search rules) (sym word.ensures ∙ c.if-not-starts_with.false)
 
 pub returns-then-found-eq0 : goal.returns-then-found-eq0
 returns-then-found-eq0 c =
     let a = c.args in
     let word = c.starts_with in
     let found = c.numeral_at-found in record {
-      field = number-empty a.line.now a.at a.limit (sym word.ensures ∙ not-false word.result c.if-not-starts_with.false-raw) found.result found.ensures.field (omega arith);
+      field = number-empty a.line.now a.at a.limit (sym word.ensures ∙ c.if-not-starts_with.false) found.result found.ensures.field (omega arith);
       fits = search rules;
     }
 
@@ -38,7 +37,7 @@ returns c =
     let a = c.args in
     let word = c.starts_with in
     let found = c.numeral_at-found in record {
-      field = number-here a.line.now a.at a.limit (sym word.ensures ∙ not-false word.result c.if-not-starts_with.false-raw) found.result found.ensures.field
+      field = number-here a.line.now a.at a.limit (sym word.ensures ∙ c.if-not-starts_with.false) found.result found.ensures.field
           c.if-found-eq0.false;
       fits = omega (arith, found.ensures.fits);
     }

@@ -5,13 +5,10 @@ use native.Mathlib.Omega.{arith}
 use mathlib.Core.Path.{sym, ◌∙◌, ap, subst}
 use Prim.Native.Nat.{◌+◌, ◌≤◌}
 use lib.ListN.{drop}
-use borrow.Author.Tests.{not-true, not-false}
-use mathlib.Core.Bool.{◌&&◌}
 use Rattle.market.specs.declared.book.Direction.{Direction}
 use Rattle.market.specs.declared.book.Route.{Route}
 use Rattle.text_fields.specs.Fields.{word_top}
 use Rattle.text_fields.specs.declared.Field.{Field}
-use Rattle.journal_fields.specs.JournalFields.{present}
 use Rattle.journal_fields.proofs.FieldLaws.{number-within}
 use Rattle.journal_fresh_line.proofs.RouteLaws.{route-none, route-here, routed}
 use Rattle.journal_fresh_line.proofs.route_at.Goals as goal
@@ -22,7 +19,7 @@ returns-then-not-way-zone c =
     let w = c.choice_at-way in
     let z = c.number_at-zone in record {
       route = ap (λ (r : Route). routed r 0) c.no_route.ensures
-          ∙ route-none a.text.now a.at w.result z.result w.ensures.field z.ensures.field (not-true (present w.result && present z.result) c.if-not-way-zone.true-raw);
+          ∙ route-none a.text.now a.at w.result z.result w.ensures.field z.ensures.field c.if-not-way-zone.true;
       fits = search rules;
     }
 
@@ -42,6 +39,6 @@ returns c =
     let used = w.result.used + z.result.used in record {
       route = ap (λ (d : Direction). routed (record { direction = d; zone = zone }) used) c.way_of.ensures
           ∙ route-here a.text.now a.at w.result z.result w.ensures.field z.ensures.field
-          (not-false (present w.result && present z.result) c.if-not-way-zone.false-raw);
+          c.if-not-way-zone.false;
       fits = omega (arith, z.ensures.fits);
     }

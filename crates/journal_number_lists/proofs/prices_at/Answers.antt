@@ -1,8 +1,9 @@
 use native.Mathlib.Omega.{arith}
-use mathlib.Core.Path.{sym, ◌∙◌, ap, subst}
+use borrow.Author.Rules.{rules}
+use mathlib.Core.Path.{◌≡◌, sym, ◌∙◌, ap, subst}
 use Prim.Native.Nat.{◌+◌}
 use lib.ListN.{set}
-use mir.Facts.{to_z-of_z}
+use mir.Val.{to_z, of_z}
 use mir.Syntax.{w64}
 use Rattle.journal_fields.specs.declared.Price.{Price}
 use Rattle.journal_fields.specs.JournalFields.{price_used, price_value}
@@ -37,7 +38,7 @@ loop-i-preserved c =
     let next = c.price_at-next in
     let e = sym next.ensures.price in
     let used = ap (λ (p : Price). p.used) next.ensures.price in
-    let same = to_z-of_z {w = w64} {z = next.result.value} (record { sfits = c.struct_told-1.given.0.1 }) in
+    let same : to_z w64 (of_z w64 next.result.value) ≡ next.result.value = search rules in
     rw same
     (subst (λ (p : Price). RunTo price_used price_value a.line.now a.at a.out.now (to.i + 1) (to.place + p.used) (set to.out to.i p.value)) e
     (run_more price_used price_value a.line.now a.at a.out.now to.i to.place to.out to.invariant
