@@ -6,8 +6,8 @@ set -euo pipefail
 earlier=$(realpath "${1:?a folder with an earlier libtra_engine.a}")
 runs=${2:-7}
 cd "$(dirname "$0")/.."
-rt staticlib tra_engine 2>&1 | tail -n 1 >&2
-now=$PWD/target/staticlib
+(cd crates/tra_engine && rt lib 2>&1 | tail -n 1 >&2)
+now=$PWD/crates/tra_engine/out
 cd bench
 build() { # SIDE FOLDER
     TRA_LIBRARY_DIR=$2 cargo build --quiet --release --offline --bin speed --target-dir "../target/bench_$1"

@@ -8,12 +8,12 @@ seconds=${1:-10}
 for tool in cc cargo; do
     command -v "$tool" > /dev/null || { echo "outside: there is no $tool (Debian's packages gcc and cargo have cc and cargo)" >&2; exit 1; }
 done
-rt staticlib tra_engine 2>&1 | tail -n 1
+(cd crates/tra_engine && rt lib 2>&1 | tail -n 1)
 
 # The header, by programs in C.
 mkdir -p target/c
 for program in sheet journal; do
-    cc -std=c99 -O2 -Wall -Wextra -Werror -o "target/c/$program" "bindings/c/$program.c" target/staticlib/libtra_engine.a
+    cc -std=c99 -O2 -Wall -Wextra -Werror -o "target/c/$program" "bindings/c/$program.c" crates/tra_engine/out/libtra_engine.a
 done
 for sample in short long; do
     target/c/sheet < "samples/$sample.sheet" | cmp - "samples/$sample.award"

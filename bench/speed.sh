@@ -5,7 +5,7 @@ set -euo pipefail
 cd "$(dirname "$0")/.."
 repetitions=${1:-1000}
 command -v glpsol > /dev/null || { apt-get update && apt-get install -y --no-install-recommends glpk-utils; } > /dev/null
-rt staticlib tra_engine 2>&1 | tail -n 1 >&2
+(cd crates/tra_engine && rt lib 2>&1 | tail -n 1 >&2)
 cd bench
 cargo build --quiet --release --offline --bins
 grep -m 1 'model name' /proc/cpuinfo | sed 's/.*: //'

@@ -1,4 +1,4 @@
-/* The transmission rights auction engine, to link: libtra_engine.a, which `rt staticlib tra_engine` writes to target/staticlib.
+/* The transmission rights auction engine, to link: libtra_engine.a, which `rt lib` in crates/tra_engine writes to its folder out.
  *
  * Every function takes any numbers and any bytes, and returns: 0 where it did its work, or the number of a refusal of the calling
  * program, and then nothing that was lent has changed. 1: a buffer is too short. 2: the words of the book are no book.
