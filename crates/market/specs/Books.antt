@@ -1,5 +1,6 @@
 -- The parts of a book, and a book with one of them replaced: rule 1.1 and rules 2.1 to 2.5. The types are those that `src/` declares.
-use Rattle.std.specs.Prelude.{Bool, true, not, ◌&&◌, ◌||◌, List, [], ◌∷◌, ◌++◌, map, ℕ, ◌+◌, eqb, ℤ, length, take, drop, get_or, set}
+use Rattle.std.specs.Prelude.{Bool, not, ◌||◌, List, ◌++◌, map, ℕ, ◌+◌, eqb, ℤ, length, take, drop, get_or, set}
+use Rattle.std.specs.List.{list_all}
 use Rattle.market.specs.declared.book.Bidder.{Bidder}
 use Rattle.market.specs.declared.book.Book.{Book}
 use Rattle.market.specs.declared.book.Direction.TheVariants.{Export}
@@ -13,9 +14,8 @@ use Rattle.market.specs.declared.units.Megawatts.{Megawatts}
 use Rattle.market.specs.declared.units.ZonePrice.{ZonePrice}
 
 -- a test holds of every element of a list
-abbrev pub every {ℓ} : {A : Type ℓ} → (A → Bool) → List A → Bool
-every test [] = true
-every test (x ∷ xs) = test x && every test xs
+abbrev pub every : {A : Type 0} → (A → Bool) → List A → Bool
+every test xs = list_all test xs
 
 -- other elements at the front of a list; those after them stay
 abbrev pub with_front : {X : Type 0} → List X → List X → List X

@@ -6,7 +6,7 @@ use crate::book::Book;
 use crate::units::Cents;
 
 // The refusals, by their numbers in the rules.
-#[derive(Clone, Copy)]
+#[derive(Clone, Copy, Debug, PartialEq, Eq)]
 pub struct Refusal {}
 
 impl Refusal {
@@ -55,7 +55,7 @@ impl Refusal {
 }
 
 // What a call answers: the refusal's number, that it is done, the draw on a letter of credit, or a round's number of bids.
-#[derive(Clone, Copy)]
+#[derive(Clone, Copy, Debug, PartialEq, Eq)]
 pub enum Answer {
     Refused(u32),
     Done,
@@ -78,7 +78,7 @@ impl Answer {
 }
 
 // A call's answer, and the book after it.
-#[derive(Clone, Copy)]
+#[derive(Clone, Copy, Debug, PartialEq, Eq)]
 pub struct Outcome {
     pub answer: Answer,
     pub book: Book,

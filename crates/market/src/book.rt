@@ -6,21 +6,21 @@ use crate::engine::Engine;
 use crate::units::{Balance, Cents, Day, Megawatts};
 
 // The direction of a path: on X power leaves Ontario, on M it comes in.
-#[derive(Clone, Copy)]
+#[derive(Clone, Copy, Debug, PartialEq, Eq)]
 pub enum Direction {
     Export,
     Import,
 }
 
 // Where a path leads: its direction, and its zone outside Ontario.
-#[derive(Clone, Copy)]
+#[derive(Clone, Copy, Debug, PartialEq, Eq)]
 pub struct Route {
     pub direction: Direction,
     pub zone: u32,
 }
 
 // A path (rule 2.2): its route, the MW that the auction offers, and the MW of them that rounds have sold.
-#[derive(Clone, Copy)]
+#[derive(Clone, Copy, Debug, PartialEq, Eq)]
 pub struct Path {
     pub direction: Direction,
     pub zone: u32,
@@ -29,21 +29,21 @@ pub struct Path {
 }
 
 // The kind of an auction: S, short-term, or L, long-term.
-#[derive(Clone, Copy)]
+#[derive(Clone, Copy, Debug, PartialEq, Eq)]
 pub enum Kind {
     Short,
     Long,
 }
 
 // The days of a right, first and last.
-#[derive(Clone, Copy)]
+#[derive(Clone, Copy, Debug, PartialEq, Eq)]
 pub struct Period {
     pub first: Day,
     pub last: Day,
 }
 
 // The stage (rule 2.6): no auction is open, or one is, of a kind, with the number of its next round and the period of its rights.
-#[derive(Clone, Copy)]
+#[derive(Clone, Copy, Debug, PartialEq, Eq)]
 pub enum Stage {
     Idle,
     Open {
@@ -54,7 +54,7 @@ pub enum Stage {
 }
 
 // A bidder's account with the market.
-#[derive(Clone, Copy)]
+#[derive(Clone, Copy, Debug, PartialEq, Eq)]
 pub struct Bidder {
     pub cash: Cents,
     pub applied: Cents,
@@ -65,7 +65,7 @@ pub struct Bidder {
 }
 
 // The book. Of `paths` the first `path_count` are the book's; `entries` is the register's count.
-#[derive(Clone, Copy)]
+#[derive(Clone, Copy, Debug, PartialEq, Eq)]
 pub struct Book {
     pub paths: [Path; Engine::PATHS],
     pub path_count: usize,
@@ -77,7 +77,7 @@ pub struct Book {
 
 // One entry of the register: a bidder's right on a path. `state` is Engine::PENDING or Engine::ISSUED; lent words
 // may hold any other number there, which makes the entry unsound.
-#[derive(Clone, Copy)]
+#[derive(Clone, Copy, Debug, PartialEq, Eq)]
 pub struct Entry {
     pub bidder: u32,
     pub path: u32,

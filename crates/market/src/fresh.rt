@@ -16,12 +16,9 @@ fn sound_routes(routes: [Route; Engine::PATHS], count: usize) -> bool
     requires { count ≤ path_limit }
     ensures { result ≡ every sound_route (take count routes) }
 {
-    for i in 0..count {
-        if routes[i].zone > Engine::ZONE_LIMIT {
-            return false;
-        }
-    }
-    true
+    routes[..count]
+        .iter()
+        .all(|route| route.zone <= Engine::ZONE_LIMIT)
 }
 
 // The number of the refusal of a fresh book, 0 where there is none.
