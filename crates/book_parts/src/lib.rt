@@ -16,8 +16,7 @@ pub fn bidder(book: Book, number: u32) -> Bidder
     requires { number < bidder_limit }
     ensures { result ≡ bidder_of book number }
 {
-    let at = number as usize;
-    book.bidders[at]
+    book.bidders[number as usize]
 }
 
 // The book with the bidder at a number replaced.
@@ -25,9 +24,8 @@ pub fn with_bidder(book: Book, number: u32, bidder: Bidder) -> Book
     requires { number < bidder_limit }
     ensures { result ≡ with_bidder book number bidder }
 {
-    let at = number as usize;
     let mut next = book;
-    next.bidders[at] = bidder;
+    next.bidders[number as usize] = bidder;
     next
 }
 
@@ -35,33 +33,24 @@ pub fn with_bidder(book: Book, number: u32, bidder: Bidder) -> Book
 pub fn with_account(book: Book, account: Balance) -> Book
     ensures { result ≡ with_account book account.0 }
 {
-    let mut next = book;
-    next.account = account;
-    next
+    Book { account, ..book }
 }
 
 // The book with its count of the register's entries replaced.
 pub fn with_entries(book: Book, entries: usize) -> Book
     ensures { result ≡ with_entries book entries }
 {
-    let mut next = book;
-    next.entries = entries;
-    next
+    Book { entries, ..book }
 }
 
 // The book with its paths and its stage replaced.
 pub fn with_auction(book: Book, paths: [Path; Engine::PATHS], stage: Stage) -> Book
     ensures { result ≡ with_auction book paths stage }
 {
-    let bidders = book.bidders;
-    let account = book.account;
     Book {
         paths,
-        path_count: book.path_count,
-        bidders,
-        account,
-        entries: book.entries,
         stage,
+        ..book
     }
 }
 
@@ -69,23 +58,19 @@ pub fn with_auction(book: Book, paths: [Path; Engine::PATHS], stage: Stage) -> B
 pub fn is_idle(stage: Stage) -> bool
     ensures { result ≡ is_idle stage }
 {
-    if let Stage::Idle = stage { true } else { false }
+    matches!(stage, Stage::Idle)
 }
 
 // Whether open takes a period.
 pub fn sound_period(period: Period) -> bool
     ensures { result ≡ sound_period period }
 {
-    let first = period.first;
-    let last = period.last;
-    (first.0 <= last.0) & (last.0 <= Engine::DAY_LIMIT)
+    period.first <= period.last && period.last.0 <= Engine::DAY_LIMIT
 }
 
 // Whether a bidder's value is 0.
 pub fn no_value(bidder: Bidder) -> bool
     ensures { result ≡ no_value bidder }
 {
-    let applied = bidder.applied;
-    let owed = bidder.owed;
-    (applied.0 == 0) & (owed.0 == 0)
+    bidder.applied.0 == 0 && bidder.owed.0 == 0
 }

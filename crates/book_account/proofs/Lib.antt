@@ -1,3 +1,0 @@
--- Laws about the signed account.
-pub mod Balances
-pub mod MagnitudeLaws
