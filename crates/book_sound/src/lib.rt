@@ -13,10 +13,7 @@ use market::engine::Engine;
 fn sum_within(a: u64, b: u64, limit: u64) -> bool
     ensures { result ≡ leb (a + b) limit }
 {
-    if limit < a {
-        return false;
-    }
-    b <= limit - a
+    a.checked_add(b).is_some_and(|sum| sum <= limit)
 }
 
 fn sound_round(kind: Kind, round: u32) -> bool
@@ -24,7 +21,7 @@ fn sound_round(kind: Kind, round: u32) -> bool
 {
     match kind {
         Kind::Short => round == 1,
-        Kind::Long => (round == 1) | (round == 2),
+        Kind::Long => matches!(round, 1 | 2),
     }
 }
 
@@ -37,7 +34,7 @@ fn sound_stage(stage: Stage) -> bool
             kind,
             round,
             period,
-        } => sound_round(kind, round) & book_parts::sound_period(period),
+        } => sound_round(kind, round) && book_parts::sound_period(period),
     }
 }
 
@@ -47,98 +44,65 @@ fn round_of(stage: Stage) -> u32
 {
     match stage {
         Stage::Idle => 0,
-        Stage::Open {
-            kind: _,
-            round,
-            period: _,
-        } => round,
+        Stage::Open { round, .. } => round,
     }
 }
 
 fn sound_path(round: u32, path: Path) -> bool
     ensures { result ≡ sound_path round path }
 {
-    let offer = path.offer;
-    let sold = path.sold;
-    (path.zone <= Engine::ZONE_LIMIT)
-        & ((round != 1) | (sold.0 == 0))
-        & (sold.0 <= offer.0)
-        & (offer.0 <= Engine::QUANTITY_LIMIT)
-}
-
-// Whether each of the first `count` paths is sound.
-fn sound_paths(round: u32, paths: [Path; Engine::PATHS], count: usize) -> bool
-    requires { count ≤ path_limit }
-    ensures { result ≡ every (sound_path round) (take count paths) }
-{
-    for i in 0..count {
-        if !sound_path(round, paths[i]) {
-            return false;
-        }
-    }
-    true
+    path.zone <= Engine::ZONE_LIMIT
+        && (round != 1 || path.sold.0 == 0)
+        && path.sold <= path.offer
+        && path.offer.0 <= Engine::QUANTITY_LIMIT
 }
 
 // Whether a bidder meets what the next round asks in addition to the fixed bounds.
 fn fits_round(round: u32, bidder: Bidder) -> bool
     ensures { result ≡ ((eqb round 1 implies no_value bidder) && (eqb round 2 implies leb bidder.owed.0 round_two_owed_limit)) }
 {
-    let owed = bidder.owed;
-    if round == 1 {
-        return book_parts::no_value(bidder);
+    match round {
+        1 => book_parts::no_value(bidder),
+        2 => bidder.owed.0 <= Engine::ROUND_TWO_OWED_LIMIT,
+        _ => true,
     }
-    if round == 2 {
-        return owed.0 <= Engine::ROUND_TWO_OWED_LIMIT;
-    }
-    true
 }
 
 fn sound_bidder(round: u32, bidder: Bidder) -> bool
     ensures { result ≡ sound_bidder round bidder }
 {
-    if !fits_round(round, bidder) {
-        return false;
-    }
-    let cash = bidder.cash;
-    let applied = bidder.applied;
-    let letter = bidder.letter;
-    let hold = bidder.hold;
-    let owed = bidder.owed;
-    let held = sum_within(cash.0, applied.0, Engine::MONEY_LIMIT);
-    held & (letter.0 <= Engine::MONEY_LIMIT)
-        & (hold.0 <= letter.0)
-        & (owed.0 <= Engine::OWED_LIMIT)
-        & (bidder.step <= Engine::STEP_LIMIT)
+    fits_round(round, bidder)
+        && sum_within(bidder.cash.0, bidder.applied.0, Engine::MONEY_LIMIT)
+        && bidder.letter.0 <= Engine::MONEY_LIMIT
+        && bidder.hold <= bidder.letter
+        && bidder.owed.0 <= Engine::OWED_LIMIT
+        && bidder.step <= Engine::STEP_LIMIT
+}
+
+// Whether each path is sound.
+fn sound_paths(round: u32, paths: &[Path]) -> bool
+    ensures { result ≡ every (sound_path round) paths.now }
+{
+    paths.iter().all(|path| sound_path(round, *path))
 }
 
 // Whether each bidder is sound.
-fn sound_bidders(round: u32, bidders: [Bidder; Engine::BIDDERS]) -> bool
-    ensures { result ≡ every (sound_bidder round) bidders }
+fn sound_bidders(round: u32, bidders: &[Bidder]) -> bool
+    ensures { result ≡ every (sound_bidder round) bidders.now }
 {
-    for i in 0..Engine::BIDDERS {
-        if !sound_bidder(round, bidders[i]) {
-            return false;
-        }
-    }
-    true
+    bidders.iter().all(|bidder| sound_bidder(round, *bidder))
 }
 
 // Whether a book is sound.
+#[tactic(auto, unfolding(market::specs::Sound::sound_book))]
 pub fn sound_book(book: Book) -> bool
     ensures { result ≡ sound_book book }
 {
-    let count = book.path_count;
-    if !market::book::sound_path_count(count) {
-        return false;
-    }
-    let stage = book.stage;
-    let paths = book.paths;
-    let bidders = book.bidders;
-    let account = book.account;
-    let round = round_of(stage);
-    (book.entries <= Engine::ENTRIES)
-        & sound_stage(stage)
-        & sound_paths(round, paths, count)
-        & sound_bidders(round, bidders)
-        & book_account::sound(account)
+    let round = round_of(book.stage);
+    market::book::sound_path_count(book.path_count)
+        && book.entries <= Engine::ENTRIES
+        && sound_stage(book.stage)
+        && sound_paths(round, &book.paths[..book.path_count])
+        && sound_bidders(round, &book.bidders)
+        && book_account::sound(book.account)
 }

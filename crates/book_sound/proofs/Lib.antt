@@ -1,2 +1,0 @@
--- Laws about sound books.
-pub mod RoundLaws
