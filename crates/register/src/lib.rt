@@ -40,16 +40,14 @@ pub fn put(words: &mut [u32], i: usize, entry: Entry)
     ensures { words.new ≡ entry_put words.old i entry }
 {
     let at = i * Engine::ENTRY_WORDS;
-    let quantity = entry.quantity;
-    let period = entry.period;
-    let first = period.first;
-    let last = period.last;
-    words[at] = entry.bidder;
-    words[at + 1] = entry.path;
-    words[at + 2] = quantity.0;
-    words[at + 3] = first.0;
-    words[at + 4] = last.0;
-    words[at + 5] = entry.state;
+    words[at..at + Engine::ENTRY_WORDS].copy_from_slice(&[
+        entry.bidder,
+        entry.path,
+        entry.quantity.0,
+        entry.period.first.0,
+        entry.period.last.0,
+        entry.state,
+    ]);
 }
 
 // Adds an entry after the counted ones.

@@ -16,12 +16,14 @@ use register::Removal;
 fn issued_to(bidder: u32, entry: Entry) -> Entry
     ensures { result ≡ issued_to bidder entry }
 {
-    let mut next = entry;
     if entry.bidder == bidder {
-        next.state = Engine::ISSUED;
-        return next;
+        Entry {
+            state: Engine::ISSUED,
+            ..entry
+        }
+    } else {
+        entry
     }
-    next
 }
 
 // Issues a bidder's entries.
@@ -38,11 +40,9 @@ pub fn issue(words: &mut [u32], count: usize, bidder: u32)
 fn is_gone(what: Removal, entry: Entry) -> bool
     ensures { result ≡ goes what entry }
 {
-    let period = entry.period;
-    let last = period.last;
     match what {
-        Removal::PendingOf(bidder) => (entry.bidder == bidder) & (entry.state == Engine::PENDING),
-        Removal::EndedBefore(day) => (entry.state == Engine::ISSUED) & (last.0 < day.0),
+        Removal::PendingOf(bidder) => entry.bidder == bidder && entry.state == Engine::PENDING,
+        Removal::EndedBefore(day) => entry.state == Engine::ISSUED && entry.period.last < day,
     }
 }
 
@@ -79,15 +79,11 @@ pub fn remove(words: &mut [u32], count: usize, what: Removal) -> usize
 fn counted(period: Period, entry: Entry) -> Megawatts
     ensures { result ≡ megawatts (cond (shares_day entry.period period) entry.quantity.0 0) }
 {
-    let days = entry.period;
-    let first = days.first;
-    let last = days.last;
-    let new_first = period.first;
-    let new_last = period.last;
-    if (first.0 <= new_last.0) & (new_first.0 <= last.0) {
-        return entry.quantity;
+    if entry.period.first <= period.last && period.first <= entry.period.last {
+        entry.quantity
+    } else {
+        Megawatts(0)
     }
-    Megawatts(0)
 }
 
 // The megawatts outstanding on each path: those of its counted entries that overlap `period`. One pass over the entries adds each to
@@ -107,10 +103,7 @@ pub fn outstanding(
     let mut sums = [Megawatts(0); Engine::PATHS];
     for i in 0..count {
         let entry = register::read(words, i);
-        let more = counted(period, entry);
-        let path = entry.path as usize;
-        let sum = sums[path];
-        sums[path] = Megawatts(sum.0 + more.0);
+        sums[entry.path as usize].0 += counted(period, entry).0;
     }
     sums
 }
