@@ -18,8 +18,7 @@ fn multiplier_of(step: u32) -> u64
     requires { step ≤ step_limit }
     ensures { result ≡ multiplier step }
 {
-    let at = step as usize;
-    Engine::MULTIPLIERS[at]
+    Engine::MULTIPLIERS[step as usize]
 }
 
 // A bidder's limit: the values of its admitted bids in a round are at most this.
@@ -27,11 +26,8 @@ fn limit_of(bidder: Bidder) -> Cents
     requires { BidderBounds bidder }
     ensures { result.0 ≡ bidding_limit bidder }
 {
-    let cash = bidder.cash;
-    let letter = bidder.letter;
-    let hold = bidder.hold;
-    let limit = multiplier_of(bidder.step) * (cash.0 + letter.0 - hold.0);
-    Cents(limit)
+    let funds = bidder.cash.0 + bidder.letter.0 - bidder.hold.0;
+    Cents(multiplier_of(bidder.step) * funds)
 }
 
 // The limits of all bidders, by number.
@@ -39,19 +35,14 @@ pub fn limits_of(bidders: [Bidder; Engine::BIDDERS]) -> [Cents; Engine::BIDDERS]
     requires { AllWithin bidders }
     ensures { in_cents result ≡ map bidding_limit bidders }
 {
-    let mut limits = [Cents(0); Engine::BIDDERS];
-    for i in 0..Engine::BIDDERS {
-        let limit = limit_of(bidders[i]);
-        limits[i] = limit;
-    }
-    limits
+    bidders.map(limit_of)
 }
 
 // The mark of a bid: admitted if `total`, the bidder's admitted values with this one, is within the limit.
 fn mark_of(total: Cents, limit: Cents) -> u32
     ensures { result ≡ cond (leb total.0 limit.0) admitted over }
 {
-    if total.0 <= limit.0 {
+    if total <= limit {
         return Engine::ADMITTED;
     }
     Engine::OVER
@@ -61,7 +52,7 @@ fn mark_of(total: Cents, limit: Cents) -> u32
 fn used_after(before: Cents, total: Cents, limit: Cents) -> Cents
     ensures { result.0 ≡ cond (leb total.0 limit.0) total.0 before.0 }
 {
-    if total.0 <= limit.0 {
+    if total <= limit {
         return total;
     }
     before
@@ -84,9 +75,7 @@ pub fn marks_of(words: &[u32], limits: [Cents; Engine::BIDDERS]) -> Marks
 {
     let mut marks = [0; Engine::BIDS];
     let mut used = [Cents(0); Engine::BIDDERS];
-    let mut k: usize = 0;
-    let mut at: usize = 0;
-    while at < words.len() {
+    for (k, at) in round_bids::places(words).enumerate() {
         let header = round_bids::header_at(words, at);
         let value = round_bids::bid_value(words, at);
         let bidder = header.bidder as usize;
@@ -97,8 +86,7 @@ pub fn marks_of(words: &[u32], limits: [Cents; Engine::BIDDERS]) -> Marks
         let after = used_after(before, total, limit);
         marks[k] = mark;
         used[bidder] = after;
-        k += 1;
-        at = round_bids::bid_end(words, at);
     }
-    Marks { marks, bids: k }
+    let bids = round_bids::bid_count(words);
+    Marks { marks, bids }
 }

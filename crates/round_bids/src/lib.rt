@@ -1,6 +1,8 @@
 // The bid list as words: what a bid is, its bid value, and where the next bid begins.
 #![tactic(auto)]
 
+mod bid_places;
+
 ghost use Rattle.std.specs.Prelude.{◌≡◌, true, ◌+◌, ◌*◌, ◌≤◌, length};
 ghost use Rattle.market.specs.Books.{cents};
 ghost use Rattle.market.specs.Limits.{lamination_limit, header_words, pair_words};
@@ -8,6 +10,7 @@ ghost use Rattle.round_bids.specs.Bids.{header_at, lamination_at, laminations_at
 ghost use Rattle.round_bids.specs.Bids.{lamination_value, laminations_value, bid_value, lamination_value_limit, bid_value_limit};
 ghost use Rattle.round_bids.specs.BidRefusals.{sound_lamination, sound_laminations, above_prices};
 
+pub use crate::bid_places::{BidPlaces, bid_count, places};
 use market::engine::Engine;
 use market::units::{Cents, Megawatts};
 
@@ -40,19 +43,13 @@ pub fn header_at(words: &[u32], at: usize) -> Header
     }
 }
 
-fn wide(x: u32) -> u64
-    ensures { result ≡ x }
-{
-    x as u64
-}
-
 // The pair that begins at word `at`.
 pub fn lamination_at(words: &[u32], at: usize) -> Lamination
     requires { at + pair_words ≤ length words.now }
     ensures { result ≡ lamination_at words.now at }
 {
     Lamination {
-        price: Cents(wide(words[at])),
+        price: Cents(u64::from(words[at])),
         quantity: Megawatts(words[at + 1]),
     }
 }
@@ -70,9 +67,7 @@ fn lamination_value(lamination: Lamination) -> Cents
     ensures value { result ≡ cents (lamination_value lamination) }
     ensures result_le_lamination_value_limit { result.0 ≤ lamination_value_limit }
 {
-    let price = lamination.price;
-    let quantity = lamination.quantity;
-    Cents(price.0 * wide(quantity.0))
+    Cents(lamination.price.0 * u64::from(lamination.quantity.0))
 }
 
 // The bid value of `count` pairs, the first of which begins at word `at`.
@@ -83,11 +78,10 @@ fn pairs_value(words: &[u32], at: usize, count: u32) -> Cents
     ensures value { result ≡ cents (laminations_value (laminations_at words.now at count)) }
     ensures result_le_bid_value_limit { result.0 ≤ bid_value_limit }
 {
-    let mut sum: u64 = 0;
+    let mut sum = 0;
     for i in 0..count {
         let lamination = lamination_at(words, at + (i as usize) * Engine::PAIR_WORDS);
-        let value = lamination_value(lamination);
-        sum += value.0;
+        sum += lamination_value(lamination).0;
     }
     Cents(sum)
 }

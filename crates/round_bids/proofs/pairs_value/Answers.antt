@@ -10,8 +10,8 @@ use Rattle.round_bids.proofs.pairs_value.Goals as goal
 pub loop-i-init : goal.loop-i-init
 loop-i-init c = let a = c.args in (search rules, none-added a.words.now a.at a.count c.requires.count_value)
 
-pub lamination_value-value-requires : goal.lamination_value-value-requires
-lamination_value-value-requires c = let a = c.args in
+pub lamination_value-sum-requires : goal.lamination_value-sum-requires
+lamination_value-sum-requires c = let a = c.args in
     let at = c.loop-i in
     let lam = c.lamination_at-lamination in sound-here a.words.now a.at a.count at.i at.sum at.invariant.1 lam.result lam.ensures (search rules)
 
@@ -19,13 +19,13 @@ pub overflow_add-sum : goal.overflow_add-sum
 overflow_add-sum c = let a = c.args in
     let at = c.loop-i in
     let lam = c.lamination_at-lamination in
-    record { fits = omega (arith, at.invariant.1.within, c.lamination_value-value.ensures.result_le_lamination_value_limit) }
+    record { fits = omega (arith, at.invariant.1.within, c.lamination_value-sum.ensures.result_le_lamination_value_limit) }
 
 pub loop-i-preserved : goal.loop-i-preserved
 loop-i-preserved c = let a = c.args in
     let at = c.loop-i in
     let lam = c.lamination_at-lamination in
-    let value : c.lamination_value-value.result.0 ≡ lamination_value lam.result = ap (λ (m : Cents). m.0) c.lamination_value-value.ensures.value in (
+    let value : c.lamination_value-sum.result.0 ≡ lamination_value lam.result = ap (λ (m : Cents). m.0) c.lamination_value-sum.ensures.value in (
       search rules,
       rw (value) (one-added a.words.now a.at a.count at.i at.sum at.invariant.1 lam.result lam.ensures (search rules)),
     )
