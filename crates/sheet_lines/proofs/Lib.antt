@@ -1,4 +1,3 @@
 -- Laws about lines.
 -- Laws about the lines of a section.
 pub mod LineLaws
-pub mod BidderLaws

@@ -13,23 +13,20 @@ use part::Part;
 use text_fields::Field;
 
 // The bytes of the kinds and of the directions.
-pub const SHORT: u8 = 83;
+pub const SHORT: u8 = b'S';
 
-pub const LONG: u8 = 76;
+pub const LONG: u8 = b'L';
 
-const EXPORT: u8 = 88;
+const EXPORT: u8 = b'X';
 
-pub const IMPORT: u8 = 77;
+pub const IMPORT: u8 = b'M';
 
 // The bytes of two parts, the second after the first: 0 if one of them is missing.
 fn both(first: usize, second: usize) -> usize
     requires { first + second < 2 ^ 64 }
     ensures { result ≡ both_used first second }
 {
-    if first == 0 {
-        return 0;
-    }
-    if second == 0 {
+    if first == 0 || second == 0 {
         return 0;
     }
     first + second
@@ -41,16 +38,10 @@ fn letter_at(bytes: &[u8], at: usize, one: u8, other: u8) -> bool
     ensures { result ≡ ((eqb (get_or bytes.now at 0) one || eqb (get_or bytes.now at 0) other)
         && eqb (get_or bytes.now (at + 1) 0) space) }
 {
-    if bytes.len() - at < 2 {
-        return false;
+    match &bytes[at..] {
+        [letter, next, ..] => (*letter == one || *letter == other) && *next == text_fields::SPACE,
+        _ => false,
     }
-    let letter = bytes[at];
-    if letter != one {
-        if letter != other {
-            return false;
-        }
-    }
-    bytes[at + 1] == text_fields::SPACE
 }
 
 // The title: its word, the kind and the two days (rule 14.3).
@@ -58,10 +49,7 @@ pub fn title_used(bytes: &[u8]) -> usize
     ensures title { result ≡ title_used bytes.now }
     ensures fits { result ≤ length bytes.now }
 {
-    if !text_fields::starts_with(bytes, 0, b"TRA ") {
-        return 0;
-    }
-    if !letter_at(bytes, 4, SHORT, LONG) {
+    if !text_fields::starts_with(bytes, 0, b"TRA ") || !letter_at(bytes, 4, SHORT, LONG) {
         return 0;
     }
     both(
@@ -88,10 +76,7 @@ fn count_behind(bytes: &[u8], at: usize, word: &[u8]) -> Field
         text_fields::NEWLINE,
     );
     if !text_fields::starts_with(bytes, at, word) {
-        return Field {
-            value: count.value,
-            used: 0,
-        };
+        return Field { used: 0, ..count };
     }
     Field {
         value: count.value,

@@ -15,10 +15,7 @@ fn bidder_used(bytes: &[u8], at: usize, least: u64) -> usize
     ensures fits { at + result ≤ length bytes.now }
 {
     let bidder = text_fields::field_at(bytes, at, text_fields::AMOUNT_TOP, text_fields::SPACE);
-    if bidder.value < least {
-        return 0;
-    }
-    if BIDDERS <= bidder.value {
+    if bidder.value < least || BIDDERS <= bidder.value {
         return 0;
     }
     text_fields::numbers_used(bytes, at, text_fields::AMOUNT_TOP, text_fields::NEWLINE, 3)

@@ -1,20 +1,19 @@
 -- Laws about words, fields and numbers that are read at a place of a text.
-use mathlib.Core.Path.{◌≡◌, refl, sym, ◌∙◌, ap, ap₂, subst}
-use mathlib.Core.Bool.{Bool, true, false, cond, ◌&&◌, and-false, false≢true}
+use mathlib.Core.Path.{◌≡◌, refl, sym, ◌∙◌, ap, subst}
+use mathlib.Core.Bool.{Bool, true, false, cond, ◌&&◌, false≢true}
 use mathlib.Core.List.{List, [], ◌∷◌}
 use Prim.Native.Nat.{ℕ, zero, suc, ◌+◌, ◌-◌, ◌^◌, ◌≤◌, ◌<◌}
-use native.Mathlib.Numerals.{add-one}
 use native.Mathlib.Omega.{arith}
 use lib.Dec.{leb, eqb}
-use lib.ListN.{length, get_or, drop, drop_of_length-le, get_or-eq_default}
-use lib.Seq.{drop-drop, drop-cons, get_or-drop}
-use borrow.Author.Tests.{leb-true, le-leb, lt-leb, eq-eqb, ne_eqb}
+use lib.ListN.{length, get_or, drop}
+use lib.Seq.{drop-drop}
+use borrow.Author.Tests.{leb-true, ne_eqb}
 use Rattle.market.proofs.Tests.{left-true, right-true}
 use Rattle.market.specs.Limits.{digit_limit}
 use Rattle.text_numbers.proofs.DecimalLaws.{digits-only, value-bound}
 use Rattle.text_numbers.specs.Decimal.{digits_in, value_from, no_leading_zero, right_digits, number_at}
 use Rattle.text_numbers.specs.declared.Number.{Number}
-use Rattle.text_fields.specs.Fields.{space, starts_with, field_of, field_at, both, numbers_used}
+use Rattle.text_fields.specs.Fields.{space, starts_with, field_at, both, numbers_used}
 use Rattle.text_fields.specs.declared.Field.{Field}
 use Rattle.text_fields.proofs.FieldLaws.{both_some}
 
@@ -25,58 +24,6 @@ pub starts_fit : (word text : List ℕ) → starts_with word text ≡ true → l
 starts_fit [] text e = omega arith
 starts_fit (c ∷ cs) [] e = absurd (false≢true e)
 starts_fit (c ∷ cs) (d ∷ ds) e = omega (arith, starts_fit cs ds (right-true (eqb c d) (starts_with cs ds) e))
-
--- a word at a place of a text, of which the bytes before its byte `i` were found
-module _ (bytes : List ℕ) (at : ℕ) (word : List ℕ) where
-  abbrev stands : Bool
-  stands = starts_with word (drop at bytes)
-
-  pub record MatchedTo (i : ℕ) : Type 0 where
-    pub within : i ≤ length word
-    pub fits : at + i ≤ length bytes
-    pub rest : stands ≡ starts_with (drop i word) (drop (at + i) bytes)
-
-  pub matched-none : at ≤ length bytes → MatchedTo 0
-  matched-none h =
-      let same : at ≡ at + 0 = omega arith in
-      record {
-        within = omega arith;
-        fits = omega arith;
-        rest = ap (λ (k : ℕ). starts_with word (drop k bytes)) same;
-      }
-
-  module _ (i : ℕ) (to : MatchedTo i) where
-    word-apart : i < length word → drop i word ≡ get_or word i 0 ∷ drop (i + 1) word
-    word-apart h = drop-cons word i 0 h ∙ ap (λ (k : ℕ). get_or word i 0 ∷ drop k word) (sym (add-one i))
-
-    pub word-past : i < length word → length bytes - at ≤ i → false ≡ stands
-    word-past h past =
-        let over : length bytes ≤ at + i = omega arith in
-        sym (to.rest ∙ ap₂ starts_with (word-apart h) (drop_of_length-le bytes over))
-
-    byte-decides :
-        i < length word → i < length bytes - at → (t : Bool) → eqb (get_or word i 0) (get_or bytes (at + i) 0) ≡ t
-        → stands ≡ (t && starts_with (drop (i + 1) word) (drop (at + (i + 1)) bytes))
-    byte-decides h k t e =
-        let next : suc (at + i) ≡ at + (i + 1) = omega arith in
-        to.rest
-        ∙ ap₂ starts_with (word-apart h) (drop-cons bytes (at + i) 0 (omega arith) ∙ ap (λ (k : ℕ). get_or bytes (at + i) 0 ∷ drop k bytes) next)
-        ∙ ap (λ (t : Bool). t && starts_with (drop (i + 1) word) (drop (at + (i + 1)) bytes)) e
-
-    pub other_byte : i < length word → i < length bytes - at → (get_or bytes (at + i) 0 ≡ get_or word i 0 → ⊥) → false ≡ stands
-    other_byte h k other =
-        sym (byte-decides h k false (ne_eqb (get_or word i 0) (get_or bytes (at + i) 0) (λ e. other (sym e))))
-
-    pub matched-one : i < length word → i < length bytes - at → get_or bytes (at + i) 0 ≡ get_or word i 0 → MatchedTo (i + 1)
-    matched-one h k same =
-        record {
-          within = omega arith;
-          fits = omega arith;
-          rest = byte-decides h k true (eq-eqb (get_or word i 0) (get_or bytes (at + i) 0) (sym same));
-        }
-
-    pub matched-all : length word ≤ i → true ≡ stands
-    matched-all h = sym (to.rest ∙ ap (λ (l : List ℕ). starts_with l (drop (at + i) bytes)) (drop_of_length-le word h))
 
 -- ---- A number at the front of a text
 
@@ -111,53 +58,6 @@ field-within limit stop text f is = subst (λ (g : Field). g.value ≤ limit) (s
     go true e =
         leb-true n.value limit (right-true (leb 1 n.digits) (leb n.value limit) (left-true here ends e))
     go false e = omega arith
-
--- the field at a place, by the number that is read there
-module _ (bytes : List ℕ) (at limit stop : ℕ) (n : Number) (is : n ≡ number_at (drop at bytes)) where
-  abbrev field_here : Field
-  field_here = field_at limit stop (drop at bytes)
-
-  abbrev shown : Bool → Field
-  shown t = cond t (record { value = n.value; used = n.digits + 1 }) (record { value = 0; used = 0 })
-
-  abbrev some : Bool
-  some = leb 1 n.digits
-
-  abbrev below : Bool
-  below = leb n.value limit
-
-  abbrev ended : Bool
-  ended = eqb (get_or (drop at bytes) n.digits 0) stop
-
-  decides : (t : Bool) → (some && below && ended) ≡ t → shown t ≡ field_here
-  decides t e = sym (ap shown e) ∙ ap (field_of limit stop (drop at bytes)) is
-
-  pub no-digits : n.digits ≡ 0 → shown false ≡ field_here
-  no-digits e = decides false (ap (λ (t : Bool). t && below && ended) (lt-leb 1 n.digits (omega arith)))
-
-  pub over-limit : limit < n.value → shown false ≡ field_here
-  over-limit h =
-      decides false
-      (ap (λ (t : Bool). some && t && ended) (lt-leb n.value limit h) ∙ ap (λ (t : Bool). t && ended) (and-false some))
-
-  not-ended : (get_or (drop at bytes) n.digits 0 ≡ stop → ⊥) → shown false ≡ field_here
-  not-ended other =
-      decides false
-      (ap (λ (t : Bool). some && below && t) (ne_eqb (get_or (drop at bytes) n.digits 0) stop other) ∙ and-false (some && below))
-
-  pub no_end : 1 ≤ stop → length bytes - at ≤ n.digits → shown false ≡ field_here
-  no_end h past =
-      let zeroed : get_or bytes (at + n.digits) 0 ≡ 0 = get_or-eq_default bytes 0 (omega arith) in
-      not-ended (λ e. omega (arith, get_or-drop at bytes n.digits 0))
-
-  pub other-end : (get_or bytes (at + n.digits) 0 ≡ stop → ⊥) → shown false ≡ field_here
-  other-end other = not-ended (λ e. other (sym (get_or-drop at bytes n.digits 0) ∙ e))
-
-  pub field-here : (n.digits ≡ 0 → ⊥) → n.value ≤ limit → get_or bytes (at + n.digits) 0 ≡ stop → shown true ≡ field_here
-  field-here one h e =
-      decides true
-      (ap₂ ◌&&◌ (ap₂ ◌&&◌ (le-leb 1 n.digits (omega (arith, one))) (le-leb n.value limit h))
-      (eq-eqb (get_or (drop at bytes) n.digits 0) stop (get_or-drop at bytes n.digits 0 ∙ e)))
 
 -- ---- Two parts
 

@@ -1,6 +1,7 @@
 -- Lines, and the fields in them, written and read (rules 14.1 and 14.2). What is read at the front of a text is given by the bytes that it takes:
 -- 0 if it is not there.
-use Rattle.std.specs.Prelude.{Bool, true, false, cond, ◌&&◌, List, [], ◌∷◌, ◌++◌, map, ℕ, zero, suc, ◌+◌, ◌-◌, ◌^◌, leb, eqb, get_or, drop}
+use Rattle.std.specs.Prelude.{Bool, cond, ◌&&◌, List, [], ◌∷◌, ◌++◌, map, ℕ, zero, suc, ◌+◌, ◌-◌, ◌^◌, leb, eqb, get_or, drop}
+use Rattle.std.specs.List.{starts_with as begins}
 use Rattle.market.specs.Limits.{digit_limit}
 use Rattle.text_numbers.specs.Decimal.{decimal, number_at}
 use Rattle.text_numbers.specs.declared.Number.{Number}
@@ -40,9 +41,7 @@ amount_top = 10 ^ digit_limit - 1
 
 -- whether a text begins with these bytes
 abbrev pub starts_with : List ℕ → List ℕ → Bool
-starts_with [] text = true
-starts_with (c ∷ cs) [] = false
-starts_with (c ∷ cs) (d ∷ ds) = eqb c d && starts_with cs ds
+starts_with word text = begins eqb text word
 
 -- a field that is a word, and the space after it
 abbrev pub word_spaced : List ℕ → List ℕ

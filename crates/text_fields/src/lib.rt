@@ -6,12 +6,12 @@ ghost use Rattle.std.specs.Prelude.{◌≡◌, cond, ◌+◌, ◌≤◌, eqb, le
 ghost use Rattle.text_fields.specs.Fields.{space, starts_with, field_at, numbers_used};
 
 // The byte between fields, and the one that ends a line.
-pub const SPACE: u8 = 32;
+pub const SPACE: u8 = b' ';
 
-pub const NEWLINE: u8 = 10;
+pub const NEWLINE: u8 = b'\n';
 
 // The largest number that fits 32 bits, and the largest of 13 digits.
-pub const WORD_TOP: u64 = 4_294_967_295;
+pub const WORD_TOP: u64 = u32::MAX as u64;
 
 pub const AMOUNT_TOP: u64 = 9_999_999_999_999;
 
@@ -27,17 +27,7 @@ pub fn starts_with(bytes: &[u8], at: usize, word: &[u8]) -> bool
     requires { at ≤ length bytes.now }
     ensures { result ≡ starts_with word.now (drop at bytes.now) }
 {
-    let mut i = 0;
-    while i < word.len() {
-        if bytes.len() - at <= i {
-            return false;
-        }
-        if bytes[at + i] != word[i] {
-            return false;
-        }
-        i += 1;
-    }
-    true
+    bytes[at..].starts_with(word)
 }
 
 // The number at a place, up to a limit, with the byte that ends it.
@@ -47,35 +37,23 @@ pub fn field_at(bytes: &[u8], at: usize, limit: u64, stop: u8) -> Field
     ensures field { result ≡ field_at limit stop (drop at bytes.now) }
     ensures fits { at + result.used ≤ length bytes.now }
 {
-    let none = Field { value: 0, used: 0 };
     let number = text_numbers::number_at(bytes, at);
     let digits = number.digits;
-    if digits == 0 {
-        return none;
+    let ended = digits < bytes.len() - at && bytes[at + digits] == stop;
+    if 1 <= digits && number.value <= limit && ended {
+        return Field {
+            value: number.value,
+            used: digits + 1,
+        };
     }
-    if limit < number.value {
-        return none;
-    }
-    if bytes.len() - at <= digits {
-        return none;
-    }
-    if bytes[at + digits] != stop {
-        return none;
-    }
-    Field {
-        value: number.value,
-        used: digits + 1,
-    }
+    Field { value: 0, used: 0 }
 }
 
 // The byte that ends a number after which `more` numbers follow.
 fn stop_before(more: u64, last: u8) -> u8
     ensures { result ≡ cond (eqb more 0) last space }
 {
-    if more == 0 {
-        return last;
-    }
-    SPACE
+    if more == 0 { last } else { SPACE }
 }
 
 // The bytes that `count` numbers take, each ended by a space and the last by another byte.

@@ -9,6 +9,7 @@ use lib.Dec.{leb, ltb, eqb}
 use lib.ListN.{length, get_or, take, drop, length-append}
 use lib.Seq.{take_all, take-suc, length-take-le}
 use borrow.Author.Tests.{lt-ltb, le-ltb, ltb-true, ltb-false, le-leb, leb-true, eqb-false, ne_eqb, not-true}
+use Rattle.std.proofs.lemmas.List.Sums.{take_while-cons}
 use Rattle.market.specs.Books.{every}
 use Rattle.market.specs.Limits.{digit_limit}
 use Rattle.market.proofs.Every.{every_append, every_take, every-within}
@@ -80,23 +81,29 @@ pub decimal-digits : (n : ℕ) → every is_digit (decimal n) ≡ true
 unfolding decimal
 decimal-digits n = digits-to 20 n
 
+-- the digits at the front of a text, by its first byte
+pub digits-cons : (c : ℕ) (cs : List ℕ) → digits_in (c ∷ cs) ≡ cond (is_digit c) (c ∷ digits_in cs) []
+digits-cons c cs = take_while-cons is_digit c cs
+
 -- digits are read up to the first byte that is not a digit
 pub digits-front : (ds rest : List ℕ) (c : ℕ) → every is_digit ds ≡ true → is_digit c ≡ false → digits_in (ds ++ (c ∷ rest)) ≡ ds
-digits-front [] rest c h e = ap (λ (t : Bool). cond t (c ∷ digits_in rest) []) e
+digits-front [] rest c h e = digits-cons c rest ∙ ap (λ (t : Bool). cond t (c ∷ digits_in rest) []) e
 digits-front (d ∷ ds) rest c h e =
-    ap (λ (t : Bool). cond t (d ∷ digits_in (ds ++ (c ∷ rest))) []) (left-true (is_digit d) (every is_digit ds) h)
+    digits-cons d (ds ++ (c ∷ rest))
+    ∙ ap (λ (t : Bool). cond t (d ∷ digits_in (ds ++ (c ∷ rest))) []) (left-true (is_digit d) (every is_digit ds) h)
     ∙ ap (λ (l : List ℕ). d ∷ l) (digits-front ds rest c (right-true (is_digit d) (every is_digit ds) h) e)
 
 -- or up to the end
 pub digits-whole : (ds : List ℕ) → every is_digit ds ≡ true → digits_in ds ≡ ds
 digits-whole [] h = refl
 digits-whole (d ∷ ds) h =
-    ap (λ (t : Bool). cond t (d ∷ digits_in ds) []) (left-true (is_digit d) (every is_digit ds) h)
+    digits-cons d ds
+    ∙ ap (λ (t : Bool). cond t (d ∷ digits_in ds) []) (left-true (is_digit d) (every is_digit ds) h)
     ∙ ap (λ (l : List ℕ). d ∷ l) (digits-whole ds (right-true (is_digit d) (every is_digit ds) h))
 
 pub digits-split : (text : List ℕ) → text ≡ digits_in text ++ drop (length (digits_in text)) text
 digits-split [] = refl
-digits-split (c ∷ cs) = go (is_digit c) (digits-split cs)
+digits-split (c ∷ cs) = rw (digits-cons c cs) (go (is_digit c) (digits-split cs))
   where
     go : (t : Bool) → cs ≡ digits_in cs ++ drop (length (digits_in cs)) cs → c ∷ cs ≡ cond t (c ∷ digits_in cs) [] ++ drop (length (cond t (c ∷ digits_in cs) [])) (c ∷ cs)
     go true e = ap (λ (l : List ℕ). c ∷ l) e
@@ -104,7 +111,7 @@ digits-split (c ∷ cs) = go (is_digit c) (digits-split cs)
 
 pub digits-only : (text : List ℕ) → every is_digit (digits_in text) ≡ true
 digits-only [] = refl
-digits-only (c ∷ cs) = go (is_digit c) refl (digits-only cs)
+digits-only (c ∷ cs) = rw (digits-cons c cs) (go (is_digit c) refl (digits-only cs))
   where
     go : (t : Bool) → is_digit c ≡ t → every is_digit (digits_in cs) ≡ true → every is_digit (cond t (c ∷ digits_in cs) []) ≡ true
     go true e p = ap₂ ◌&&◌ e p
@@ -143,7 +150,7 @@ pub value-least : (m : ℕ) (ds : List ℕ) → m ≤ value_from m ds
 value-least m [] = omega arith
 value-least m (c ∷ ds) = omega (arith, value-least (m * 10 + (c - zero_byte)) ds)
 
-value-below : (m : ℕ) (ds : List ℕ) → every is_digit ds ≡ true → value_from m ds < (m + 1) * 10 ^ length ds
+pub value-below : (m : ℕ) (ds : List ℕ) → every is_digit ds ≡ true → value_from m ds < (m + 1) * 10 ^ length ds
 value-below m [] h = omega arith
 value-below m (c ∷ ds) h =
     let p = 10 ^ length ds in

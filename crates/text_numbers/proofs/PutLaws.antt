@@ -1,14 +1,18 @@
 -- Laws about bytes that are put into a list at a place.
-use mathlib.Core.Path.{◌≡◌, sym, ◌∙◌, ap, ap₂}
+use mathlib.Core.Path.{◌≡◌, refl, sym, ◌∙◌, ap, ap₂}
+use mathlib.Core.Bool.{Bool, true, false}
 use mathlib.Core.List.{List, [], ◌∷◌, ◌++◌, append_assoc, append-nil}
-use Prim.Native.Nat.{ℕ, suc, ◌+◌, ◌-◌, ◌/◌, ◌%◌, ◌^◌, ◌≤◌, ◌<◌}
+use Prim.Native.Nat.{ℕ, suc, ◌+◌, ◌*◌, ◌-◌, ◌/◌, ◌%◌, ◌^◌, ◌≤◌, ◌<◌}
+use native.Mathlib.Nat.{pow-le-pow_right}
 use native.Mathlib.Numerals.{add-one}
 use native.Mathlib.Omega.{arith}
+use lib.Dec.{ltb}
 use lib.ListN.{length, get_or, take, drop, set, length-append, length-take, length-drop}
-use lib.Seq.{take-suc, take-length, length-take-le, set_at, paste, paste-zero, paste-suc}
-use Rattle.text_numbers.specs.Decimal.{zero_byte, decimal, decimal_digits}
+use lib.Seq.{take-suc, length-take-le, set_at, paste-zero}
+use borrow.Author.Tests.{ltb-true, ltb-false}
+use Rattle.text_numbers.specs.Decimal.{zero_byte, decimal}
 use Rattle.text_numbers.specs.Put.{put_at, Put}
-use Rattle.text_numbers.proofs.DecimalLaws.{decimal-one, decimal-more, decimal-some, decimal-length}
+use Rattle.text_numbers.proofs.DecimalLaws.{decimal-one, decimal-more, decimal-some, decimal-length, decimal-value, decimal-digits, value-below}
 
 -- bytes put where there is room do not change the length of the list
 pub put-length : (out : List ℕ) (at : ℕ) (bytes : List ℕ) → at + length bytes ≤ length out → length (put_at out at bytes) ≡ length out
@@ -94,33 +98,18 @@ module _ (before : List ℕ) (at n : ℕ) (small : n < 10 ^ 20) (room : at + len
         ∙ ap₂ (λ (k : ℕ) (l : List ℕ). put_at before k l) same
         (sym (to.whole ∙ ap (λ (l : List ℕ). l ++ to.back) e))
 
--- the digits of a number counted from the last one: `left` is what is left to count
-pub record DigitsTo (n left digits : ℕ) : Type 0 where
-  pub fewer : left ≤ n
-  pub count : length (decimal n) + 1 ≡ digits + length (decimal left)
-
-module _ (n left digits : ℕ) (small : n < 10 ^ 20) (to : DigitsTo n left digits) where
-  pub digits-one : 10 ≤ left → DigitsTo n (left / 10) (digits + 1)
-  digits-one more =
-      let e = decimal-more left more (omega arith) in
-      record {
-        fewer = omega arith;
-        count = omega (arith, to.count, ap length e ∙ length-append (decimal (left / 10)) ((zero_byte + left % 10) ∷ []));
-      }
-
-  pub digits-all : left < 10 → digits ≡ length (decimal n)
-  digits-all few = omega (arith, to.count, ap length (decimal-one left few))
-
-  pub digits-few : digits ≤ decimal_digits
-  digits-few = omega (arith, to.count, decimal-some left, decimal-length 20 n (omega arith) (omega arith) small)
-
--- bytes copied one by one, from the first
-module _ (before : List ℕ) (at : ℕ) (bytes : List ℕ) (room : at + length bytes ≤ length before) (i : ℕ) where
-  pub copy-one : i < length bytes → set (paste before at bytes i) (at + i) (get_or bytes i 0) ≡ paste before at bytes (i + 1)
-  copy-one h = paste-suc before at bytes i 0 (omega arith) h ∙ ap (paste before at bytes) (sym (add-one i))
-
-  pub copy-all : i ≤ length bytes → length bytes ≤ i → paste before at bytes i ≡ put_at before at bytes
-  copy-all within all =
-      let same : i ≡ length bytes = omega arith in
-      ap (paste before at bytes) same
-      ∙ ap (λ (l : List ℕ). take at before ++ l ++ drop (at + length bytes) before) (take-length bytes)
+-- a number between two powers of 10, one after the other, has as many digits as the larger one has zeros
+pub digits-between : (n k : ℕ) → n < 10 ^ 20 → 10 ^ k ≤ n → n < 10 * 10 ^ k → k < 20 → k + 1 ≡ length (decimal n)
+digits-between n k small low high few =
+    let most : length (decimal n) ≤ suc k = decimal-length (suc k) n (omega arith) (omega arith) (omega arith) in
+    go (ltb k (length (decimal n))) refl most
+  where
+    go : (t : Bool) → ltb k (length (decimal n)) ≡ t → length (decimal n) ≤ suc k → k + 1 ≡ length (decimal n)
+    go true e most = omega (arith, ltb-true k (length (decimal n)) e)
+    go false e most =
+        absurd (let none : ⊥ = omega (
+          arith,
+          decimal-value n small,
+          value-below 0 (decimal n) (decimal-digits n),
+          pow-le-pow_right {n = 10} (omega arith) {i = length (decimal n)} {j = k} (ltb-false k (length (decimal n)) e),
+        ) in none)

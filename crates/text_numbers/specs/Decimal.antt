@@ -1,5 +1,6 @@
 -- Numbers as bytes, written and read (rule 14.2): decimal digits, with no zero in front of another digit; on a sheet at most 13 of them.
 use Rattle.std.specs.Prelude.{Bool, true, false, cond, not, ◌&&◌, List, [], ◌∷◌, ◌++◌, ℕ, zero, suc, ◌+◌, ◌*◌, ◌-◌, ◌/◌, ◌%◌, leb, ltb, eqb, length}
+use Rattle.std.specs.List.{take_while}
 use Rattle.market.specs.Limits.{digit_limit}
 use Rattle.text_numbers.specs.declared.Number.{Number}
 
@@ -28,8 +29,7 @@ decimal n = decimal_to decimal_digits n
 
 -- the digits at the front of a text
 abbrev pub digits_in : List ℕ → List ℕ
-digits_in [] = []
-digits_in (c ∷ cs) = cond (is_digit c) (c ∷ digits_in cs) []
+digits_in text = take_while is_digit text
 
 -- the value of digits that follow a number which was already read
 abbrev pub value_from : ℕ → List ℕ → ℕ

@@ -1,9 +1,10 @@
 // Numbers as decimal text: read at a place of a text, and written into a buffer.
 #![tactic(auto)]
 
-ghost use Rattle.std.specs.Prelude.{◌≡◌, ◌+◌, ◌≤◌, length, drop};
+ghost use Rattle.std.specs.Prelude.{true, ◌≡◌, ◌+◌, ◌≤◌, length, drop};
+ghost use Rattle.market.specs.Books.{every};
 ghost use Rattle.market.specs.Limits.{digit_limit};
-ghost use Rattle.text_numbers.specs.Decimal.{decimal, digits_in, number_at, value_from};
+ghost use Rattle.text_numbers.specs.Decimal.{decimal, is_digit, digits_in, right_digits, number_at, value_from};
 ghost use Rattle.text_numbers.specs.Put.{Put};
 
 use market::engine::Engine;
@@ -15,39 +16,44 @@ pub struct Number {
     pub digits: usize,
 }
 
-// The byte of the digit 0; those of the others follow it.
-const ZERO: u8 = 48;
-
-const NINE: u8 = 57;
-
-// How many digits there are at a place of a text.
-fn digits_at(text: &[u8], at: usize) -> usize
-    ensures { result ≡ length (digits_in (drop at text.now)) }
+// How many digits there are at the front of a text.
+fn digit_count(text: &[u8]) -> usize
+    ensures { result ≡ length (digits_in text.now) }
 {
-    let mut i = at;
-    while i < text.len() {
-        let c = text[i];
-        if c < ZERO {
-            return i - at;
-        }
-        if NINE < c {
-            return i - at;
-        }
-        i += 1;
-    }
-    i - at
+    text.iter().take_while(|c| c.is_ascii_digit()).count()
 }
 
-// The value of the digits at a place of a text, which are few enough to be a number.
-fn value_at(text: &[u8], at: usize, digits: usize) -> u64
-    requires digits_value { digits ≡ length (digits_in (drop at text.now)) }
-    requires digits_le_digit_limit { digits ≤ digit_limit }
-    ensures { result ≡ value_from 0 (digits_in (drop at text.now)) }
+// The digits at a place of a text.
+fn digits_at(text: &[u8], at: usize) -> &[u8]
+    ensures { result.now ≡ digits_in (drop at text.now) }
 {
-    let mut value: u64 = 0;
-    for i in 0..digits {
-        let digit = text[at + i] - ZERO;
-        value = value * 10 + digit as u64;
+    if text.len() < at {
+        return &[];
+    }
+    let rest = &text[at..];
+    &rest[..digit_count(rest)]
+}
+
+// Whether digits are a number as it is written.
+fn right_digits(digits: &[u8]) -> bool
+    ensures { result ≡ right_digits digits.now }
+{
+    match digits {
+        [] => false,
+        [_] => true,
+        [first, ..] => *first != b'0' && digits.len() <= Engine::DIGITS,
+    }
+}
+
+// The value of digits, which are few enough to be a number.
+fn value_of(digits: &[u8]) -> u64
+    requires digits_are { every is_digit digits.now ≡ true }
+    requires few { length digits.now ≤ digit_limit }
+    ensures { result ≡ value_from 0 digits.now }
+{
+    let mut value = 0;
+    for c in digits {
+        value = value * 10 + u64::from(*c - b'0');
     }
     value
 }
@@ -56,25 +62,16 @@ fn value_at(text: &[u8], at: usize, digits: usize) -> u64
 pub fn number_at(text: &[u8], at: usize) -> Number
     ensures { result ≡ number_at (drop at text.now) }
 {
-    let none = Number {
-        value: 0,
-        digits: 0,
-    };
     let digits = digits_at(text, at);
-    if digits == 0 {
-        return none;
-    }
-    if Engine::DIGITS < digits {
-        return none;
-    }
-    if 1 < digits {
-        if text[at] == ZERO {
-            return none;
-        }
+    if !right_digits(digits) {
+        return Number {
+            value: 0,
+            digits: 0,
+        };
     }
     Number {
-        value: value_at(text, at, digits),
-        digits,
+        value: value_of(digits),
+        digits: digits.len(),
     }
 }
 
@@ -82,13 +79,10 @@ pub fn number_at(text: &[u8], at: usize) -> Number
 fn digits_of(n: u64) -> usize
     ensures { result ≡ length (decimal n) }
 {
-    let mut left = n;
-    let mut digits = 1;
-    while 10 <= left {
-        left /= 10;
-        digits += 1;
+    if n == 0 {
+        return 1;
     }
-    digits
+    n.ilog10() as usize + 1
 }
 
 // Writes a number in decimal into the buffer at a place, and returns the place after it.
@@ -100,11 +94,11 @@ pub fn put_number(out: &mut [u8], at: usize, n: u64) -> usize
     let mut left = n;
     let mut i = end - 1;
     while 10 <= left {
-        out[i] = ZERO + (left % 10) as u8;
+        out[i] = b'0' + (left % 10) as u8;
         left /= 10;
         i -= 1;
     }
-    out[i] = ZERO + left as u8;
+    out[i] = b'0' + left as u8;
     end
 }
 
@@ -113,8 +107,7 @@ pub fn put_bytes(out: &mut [u8], at: usize, bytes: &[u8]) -> usize
     requires { at + length bytes.now ≤ length out.old }
     ensures { Put out.old at bytes.now out.new result }
 {
-    for i in 0..bytes.len() {
-        out[at + i] = bytes[i];
-    }
-    at + bytes.len()
+    let end = at + bytes.len();
+    out[at..end].copy_from_slice(bytes);
+    end
 }

@@ -31,13 +31,14 @@ pub fn put_numbers(out: &mut [u8], at: usize, numbers: &[u64], last: u8) -> usiz
     requires numbers_in_bounds { at + length (numbers_text last numbers.now) ≤ length out.old }
     ensures { Put out.old at (numbers_text last numbers.now) out.new result }
 {
+    let Some((end, front)) = numbers.split_last() else {
+        return at;
+    };
     let mut place = at;
-    let mut i: usize = 0;
-    while 1 < numbers.len() - i {
-        place = put_field(out, place, numbers[i], text_fields::SPACE);
-        i += 1;
+    for n in front {
+        place = put_field(out, place, *n, text_fields::SPACE);
     }
-    put_field(out, place, numbers[i], last)
+    put_field(out, place, *end, last)
 }
 
 // Writes a word and a number, on a line of their own.

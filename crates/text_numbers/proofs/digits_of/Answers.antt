@@ -1,21 +1,14 @@
+use mathlib.Core.Path.{ap}
 use native.Mathlib.Omega.{arith}
-use Rattle.text_numbers.proofs.PutLaws.{digits-one, digits-all, digits-few}
+use lib.ListN.{length}
+use Rattle.text_numbers.proofs.DecimalLaws.{decimal-one}
+use Rattle.text_numbers.proofs.PutLaws.{digits-between}
 use Rattle.text_numbers.proofs.digits_of.Goals as goal
 
-pub overflow_add-digits : goal.overflow_add-digits
-overflow_add-digits c =
-    let a = c.args in
-    let to = c.loop-left in
-    omega (arith, digits-few a.n to.left to.digits (omega arith) to.invariant)
-
-pub loop-left-preserved : goal.loop-left-preserved
-loop-left-preserved c =
-    let a = c.args in
-    let to = c.loop-left in
-    digits-one a.n to.left to.digits (omega arith) to.invariant (omega arith)
+pub returns-then-n-eq0 : goal.returns-then-n-eq0
+returns-then-n-eq0 c = omega (arith, ap length (decimal-one c.args.n (omega arith)))
 
 pub returns : goal.returns
 returns c =
-    let a = c.args in
-    let to = c.loop-left in
-    digits-all a.n to.left to.digits (omega arith) to.invariant (omega arith)
+    let log = c.ilog10 in
+    digits-between c.args.n log.result (omega arith) log.ensures.power_le log.ensures.next_power_gt log.ensures.bound
