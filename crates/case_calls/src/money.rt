@@ -1,7 +1,7 @@
 // The boundary cases of a fresh book, deposit, withdraw and rent. A line has the case, the refusal's number (0 where the call
 // is answered), and what the book then holds.
 use call_funding::Funds;
-use case_tools::report;
+use case_tools::{report, show};
 use market::answer::Outcome;
 use market::book::{Bidder, Book, Direction, Route};
 use market::engine::Engine;
@@ -20,25 +20,20 @@ fn routes(zone: u32) -> [Route; Engine::PATHS] {
 }
 
 fn fresh_book() -> Book {
-    let made = Engine::fresh(routes(15), 2);
-    made.book
+    Engine::fresh(routes(15), 2).book
 }
 
 // A case of a fresh book: how many paths, to which zone.
 fn fresh_case(rt: &impl Print, zone: u32, count: usize) -> io::Result<()> {
-    report::text(rt, b"fresh")?;
-    report::number(rt, zone as u64)?;
-    report::number(rt, count as u64)?;
-    report::text(rt, b":")?;
+    print!(rt; "fresh {zone} {count}:")?;
     let made = Engine::fresh(routes(zone), count);
     report::answer(rt, made)?;
-    let book = made.book;
-    if book_sound::sound_book(book) {
-        report::text(rt, b" sound")?;
+    let sound = if book_sound::sound_book(made.book) {
+        "sound"
     } else {
-        report::text(rt, b" unsound")?;
-    }
-    report::line(rt)
+        "unsound"
+    };
+    println!(rt; " {sound}")
 }
 
 fn fresh_cases(rt: &impl Print) -> io::Result<()> {
@@ -69,26 +64,16 @@ fn bidder_with(cash: u64, applied: u64, letter: u64, hold: u64) -> Bidder {
 }
 
 // The answer, and bidder 3 as the book then has it.
-fn show(rt: &impl Print, outcome: Outcome) -> io::Result<()> {
-    report::text(rt, b":")?;
+fn show_three(rt: &impl Print, outcome: Outcome) -> io::Result<()> {
+    print!(rt; ":")?;
     report::answer(rt, outcome)?;
-    let book = outcome.book;
-    report::bidder(rt, book.bidders[3])?;
+    report::bidder(rt, outcome.book.bidders[3])?;
     report::line(rt)
 }
 
-fn show_funds(rt: &impl Print, funds: Funds) -> io::Result<()> {
-    match funds {
-        Funds::Cash => report::text(rt, b" cash"),
-        Funds::Letter => report::text(rt, b" letter"),
-    }
-}
-
 fn deposit_case(rt: &impl Print, book: Book, to: Funds, amount: u64) -> io::Result<()> {
-    report::text(rt, b"deposit")?;
-    show_funds(rt, to)?;
-    report::number(rt, amount)?;
-    show(rt, call_funding::deposit(book, 3, to, Cents(amount)))
+    print!(rt; "deposit {} {amount}", show::funds(to))?;
+    show_three(rt, call_funding::deposit(book, 3, to, Cents(amount)))
 }
 
 fn deposit_cases(rt: &impl Print) -> io::Result<()> {
@@ -113,10 +98,8 @@ fn deposit_beside_applied(rt: &impl Print) -> io::Result<()> {
 }
 
 fn withdraw_case(rt: &impl Print, book: Book, from: Funds, amount: u64) -> io::Result<()> {
-    report::text(rt, b"withdraw")?;
-    show_funds(rt, from)?;
-    report::number(rt, amount)?;
-    show(rt, call_funding::withdraw(book, 3, from, Cents(amount)))
+    print!(rt; "withdraw {} {amount}", show::funds(from))?;
+    show_three(rt, call_funding::withdraw(book, 3, from, Cents(amount)))
 }
 
 // Applied cash cannot be withdrawn, and neither can what is held of the letter.
@@ -134,17 +117,13 @@ fn withdraw_cases(rt: &impl Print) -> io::Result<()> {
 
 // The order of refusals: an unsound book (2) before the bidder's number (10) before the amount (11).
 fn order_case(rt: &impl Print, bidder: u32, hold: u64, amount: u64) -> io::Result<()> {
-    report::text(rt, b"order")?;
-    report::number(rt, bidder as u64)?;
-    report::number(rt, hold)?;
-    report::number(rt, amount)?;
     let book = book_with(bidder_with(100, 0, 50, hold));
-    report::text(rt, b": deposit")?;
+    print!(rt; "order {bidder} {hold} {amount}: deposit")?;
     report::answer(
         rt,
         call_funding::deposit(book, bidder, Funds::Cash, Cents(amount)),
     )?;
-    report::text(rt, b" withdraw")?;
+    print!(rt; " withdraw")?;
     report::answer(
         rt,
         call_funding::withdraw(book, bidder, Funds::Cash, Cents(amount)),
@@ -163,18 +142,19 @@ fn order_cases(rt: &impl Print) -> io::Result<()> {
 
 // Rent into an account, and what the account then holds.
 fn rent_case(rt: &impl Print, account: i64, amount: u64) -> io::Result<()> {
-    report::text(rt, b"rent")?;
-    report::signed(rt, Balance(account))?;
-    report::number(rt, amount)?;
-    report::text(rt, b":")?;
-    let mut book = fresh_book();
-    let held = Balance(account);
-    book.account = held;
-    let outcome = call_rent::rent(book, Cents(amount));
+    let account = Balance(account);
+    print!(rt; "rent")?;
+    report::signed(rt, account)?;
+    print!(rt; " {amount}:")?;
+    let outcome = call_rent::rent(
+        Book {
+            account,
+            ..fresh_book()
+        },
+        Cents(amount),
+    );
     report::answer(rt, outcome)?;
-    let after = outcome.book;
-    let holds = after.account;
-    report::signed(rt, holds)?;
+    report::signed(rt, outcome.book.account)?;
     report::line(rt)
 }
 

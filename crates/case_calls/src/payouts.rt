@@ -22,12 +22,11 @@ fn book_with(account: i64, entries: usize) -> Book {
         direction: Direction::Export,
         zone: 15,
     };
-    let made = Engine::fresh(routes, 3);
-    let mut book = made.book;
-    let held = Balance(account);
-    book.account = held;
-    book.entries = entries;
-    book
+    Book {
+        account: Balance(account),
+        entries,
+        ..Engine::fresh(routes, 3).book
+    }
 }
 
 fn entry(bidder: u32, path: u32, megawatts: u32, state: u32) -> Entry {
@@ -54,21 +53,6 @@ fn entries() -> [u32; WORDS] {
     words
 }
 
-fn word(words: &[u64], at: usize) -> u64 {
-    if at < words.len() { words[at] } else { 0 }
-}
-
-fn show_amounts(rt: &impl Print, words: &[u64]) -> io::Result<()> {
-    report::number(rt, word(words, 0))?;
-    report::number(rt, word(words, 1))?;
-    report::number(rt, word(words, 2))?;
-    report::number(rt, word(words, 3))?;
-    report::text(rt, b" past")?;
-    report::number(rt, word(words, 32))?;
-    report::number(rt, word(words, 33))?;
-    report::line(rt)
-}
-
 // One hour: the account before, the day, failed or not, the price at every zone, and at zone 15.
 fn hour(
     rt: &impl Print,
@@ -78,14 +62,13 @@ fn hour(
     price: i64,
     last: i64,
 ) -> io::Result<()> {
-    report::text(rt, b"payout")?;
-    report::number(rt, day as u64)?;
+    print!(rt; "payout {day}")?;
     report::signed(rt, Balance(price))?;
     report::signed(rt, Balance(last))?;
     if failed {
-        report::text(rt, b" failed")?;
+        print!(rt; " failed")?;
     }
-    report::text(rt, b":")?;
+    print!(rt; ":")?;
     let words = entries();
     let mut prices = [price; 16];
     prices[15] = last;
@@ -99,10 +82,11 @@ fn hour(
         &mut amounts,
     );
     report::answer(rt, outcome)?;
-    let after = outcome.book;
-    let holds = after.account;
-    report::signed(rt, holds)?;
-    show_amounts(rt, &amounts)
+    report::signed(rt, outcome.book.account)?;
+    report::numbers(rt, &amounts[..4])?;
+    print!(rt; " past")?;
+    report::numbers(rt, &amounts[32..])?;
+    report::line(rt)
 }
 
 fn workbook(rt: &impl Print) -> io::Result<()> {
@@ -133,62 +117,49 @@ fn limits(rt: &impl Print) -> io::Result<()> {
     hour(rt, Engine::ACCOUNT_FLOOR - 1, 110, false, 1_000, 0)
 }
 
-// Lists that are a word too short.
-fn short_register(rt: &impl Print) -> io::Result<()> {
-    let words = [7u32; WORDS - 1];
-    let prices = [0i64; 16];
-    let mut amounts = [9u64; 34];
-    report::text(rt, b"short register:")?;
-    report::answer(
-        rt,
-        call_payout::payout(
-            book_with(0, 0),
-            &words,
-            Day(0),
-            false,
-            &prices,
-            &mut amounts,
-        ),
-    )?;
+// A payout that is lent these lists: its answer.
+fn ask(
+    rt: &impl Print,
+    name: &str,
+    words: &[u32],
+    failed: bool,
+    prices: &[i64],
+    amounts: &mut [u64],
+) -> io::Result<()> {
+    print!(rt; "{name}:")?;
+    let outcome = call_payout::payout(book_with(0, 0), words, Day(0), failed, prices, amounts);
+    report::answer(rt, outcome)?;
     report::line(rt)
 }
 
-fn short_prices(rt: &impl Print) -> io::Result<()> {
+// Each list in turn is a word too short.
+fn short_lists(rt: &impl Print) -> io::Result<()> {
     let words = entries();
-    let prices = [0i64; 15];
-    let mut amounts = [9u64; 34];
-    report::text(rt, b"short prices, failed:")?;
-    report::answer(
+    let prices = [0; 16];
+    let mut amounts = [9; 34];
+    let mut few = [9; 31];
+    ask(
         rt,
-        call_payout::payout(book_with(0, 0), &words, Day(0), true, &prices, &mut amounts),
+        "short register",
+        &words[1..],
+        false,
+        &prices,
+        &mut amounts,
     )?;
-    report::line(rt)
-}
-
-fn short_amounts(rt: &impl Print) -> io::Result<()> {
-    let words = entries();
-    let prices = [0i64; 16];
-    let mut amounts = [9u64; 31];
-    report::text(rt, b"short amounts:")?;
-    report::answer(
+    ask(
         rt,
-        call_payout::payout(
-            book_with(0, 0),
-            &words,
-            Day(0),
-            false,
-            &prices,
-            &mut amounts,
-        ),
+        "short prices, failed",
+        &words,
+        true,
+        &prices[1..],
+        &mut amounts,
     )?;
-    report::line(rt)
+    ask(rt, "short amounts", &words, false, &prices, &mut few)
 }
 
 pub fn cases(rt: &impl Print) -> io::Result<()> {
     workbook(rt)?;
     days(rt)?;
     limits(rt)?;
-    short_register(rt)?;
-    short_prices(rt)?;
-    short_amounts(rt)
+    short_lists(rt)
 }

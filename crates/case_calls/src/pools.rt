@@ -1,6 +1,6 @@
 // The boundary cases of disburse and recover. A line has the case, the account, the total, the refusal's number (0 where the
 // call is answered), the account then, and the list of shares, whose words are all 9 before the call.
-ghost use Rattle.std.specs.Prelude.{◌<◌};
+ghost use Rattle.std.specs.Prelude.{◌<◌, ◌≤◌};
 
 use case_tools::report;
 use market::answer::Outcome;
@@ -20,22 +20,41 @@ const COLUMN: u32 = 100_000_000;
 
 const LARGEST: u32 = 4_294_967_295;
 
-// The lists that are lent.
+// The charges of a pool, and the energy that it is shared by.
+#[derive(Clone, Copy)]
+struct Pool {
+    charges: [u32; WORDS],
+    energy: [u32; WORDS],
+}
+
+impl Pool {
+    // The pool with a charge and energy of one participant.
+    fn with(self, who: usize, charge: u32, energy: u32) -> Pool
+        requires { who < 34 }
+    {
+        let mut next = self;
+        next.charges[who] = charge;
+        next.energy[who] = energy;
+        next
+    }
+}
+
+// The lists of both pools: provincial charges with energy at meters, and export charges with energy at interties.
 #[derive(Clone, Copy)]
 struct Lists {
-    provincial: [u32; WORDS],
-    export: [u32; WORDS],
-    meters: [u32; WORDS],
-    interties: [u32; WORDS],
+    provincial: Pool,
+    export: Pool,
 }
 
 // The same charges and the same energy for everybody.
 fn filled(charge: u32, energy: u32) -> Lists {
+    let pool = Pool {
+        charges: [charge; WORDS],
+        energy: [energy; WORDS],
+    };
     Lists {
-        provincial: [charge; WORDS],
-        export: [charge; WORDS],
-        meters: [energy; WORDS],
-        interties: [energy; WORDS],
+        provincial: pool,
+        export: pool,
     }
 }
 
@@ -43,20 +62,53 @@ fn filled(charge: u32, energy: u32) -> Lists {
 fn at_meters(given: Lists, who: usize, charge: u32, energy: u32) -> Lists
     requires { who < 34 }
 {
-    let mut next = given;
-    next.provincial[who] = charge;
-    next.meters[who] = energy;
-    next
+    Lists {
+        provincial: given.provincial.with(who, charge, energy),
+        ..given
+    }
 }
 
 // The lists with an export charge and energy at interties of one participant.
 fn at_interties(given: Lists, who: usize, charge: u32, energy: u32) -> Lists
     requires { who < 34 }
 {
-    let mut next = given;
-    next.export[who] = charge;
-    next.interties[who] = energy;
-    next
+    Lists {
+        export: given.export.with(who, charge, energy),
+        ..given
+    }
+}
+
+// The four columns that a call is lent.
+#[derive(Clone, Copy)]
+struct Lent<'a> {
+    provincial: &'a [u32],
+    export: &'a [u32],
+    meters: &'a [u32],
+    interties: &'a [u32],
+}
+
+// The columns, cut to lengths.
+fn cut(given: &Lists, provincial: usize, export: usize, meters: usize, interties: usize) -> Lent<'_>
+    requires provincial_in_bounds { provincial ≤ 34 }
+    requires export_in_bounds { export ≤ 34 }
+    requires meters_in_bounds { meters ≤ 34 }
+    requires interties_in_bounds { interties ≤ 34 }
+{
+    Lent {
+        provincial: &given.provincial.charges[..provincial],
+        export: &given.export.charges[..export],
+        meters: &given.provincial.energy[..meters],
+        interties: &given.export.energy[..interties],
+    }
+}
+
+// The whole columns, and as many words as there are participants.
+fn whole(given: &Lists) -> Lent<'_> {
+    cut(given, WORDS, WORDS, WORDS, WORDS)
+}
+
+fn enough(given: &Lists) -> Lent<'_> {
+    cut(given, 32, 32, 32, 32)
 }
 
 fn book_with(account: i64) -> Book {
@@ -64,73 +116,67 @@ fn book_with(account: i64) -> Book {
         direction: Direction::Export,
         zone: 15,
     }; Engine::PATHS];
-    let made = Engine::fresh(routes, 2);
-    let mut book = made.book;
-    let held = Balance(account);
-    book.account = held;
-    book
-}
-
-fn show_words(rt: &impl Print, words: &[u64]) -> io::Result<()> {
-    for i in 0..words.len() {
-        report::number(rt, words[i])?;
+    Book {
+        account: Balance(account),
+        ..Engine::fresh(routes, 2).book
     }
-    Ok(())
 }
 
-fn show_case(rt: &impl Print, call: &[u8], account: i64, total: u64) -> io::Result<()> {
-    report::text(rt, call)?;
-    report::signed(rt, Balance(account))?;
-    report::number(rt, total)?;
-    report::text(rt, b":")
-}
-
-fn show(rt: &impl Print, outcome: Outcome, shares: &[u64]) -> io::Result<()> {
+// Either call, over these columns and shares: its line.
+fn share<F: FnOnce(Book, Cents, &[u32], &[u32], &[u32], &[u32], &mut [u64]) -> Outcome>(
+    rt: &impl Print,
+    name: &str,
+    book: Book,
+    total: u64,
+    lent: Lent<'_>,
+    shares: &mut [u64],
+    call: F,
+) -> io::Result<()>
+    requires { F.IsAlwaysCallable call }
+{
+    print!(rt; "{name}")?;
+    report::signed(rt, book.account)?;
+    print!(rt; " {total}:")?;
+    let outcome = call(
+        book,
+        Cents(total),
+        lent.provincial,
+        lent.export,
+        lent.meters,
+        lent.interties,
+        shares,
+    );
     report::answer(rt, outcome)?;
-    let book = outcome.book;
-    let account = book.account;
-    report::signed(rt, account)?;
-    report::text(rt, b" |")?;
-    show_words(rt, shares)?;
+    report::signed(rt, outcome.book.account)?;
+    print!(rt; " |")?;
+    report::numbers(rt, shares)?;
     report::line(rt)
 }
 
 fn disburse(rt: &impl Print, account: i64, total: u64, lent: Lists) -> io::Result<()> {
-    show_case(rt, b"disburse", account, total)?;
-    let provincial = lent.provincial;
-    let export = lent.export;
-    let meters = lent.meters;
-    let interties = lent.interties;
-    let mut shares: [u64; WORDS] = [9; WORDS];
-    let outcome = call_disburse::disburse(
+    let mut shares = [9; WORDS];
+    share(
+        rt,
+        "disburse",
         book_with(account),
-        Cents(total),
-        &provincial,
-        &export,
-        &meters,
-        &interties,
+        total,
+        whole(&lent),
         &mut shares,
-    );
-    show(rt, outcome, &shares)
+        call_disburse::disburse,
+    )
 }
 
 fn recover(rt: &impl Print, account: i64, total: u64, lent: Lists) -> io::Result<()> {
-    show_case(rt, b"recover", account, total)?;
-    let provincial = lent.provincial;
-    let export = lent.export;
-    let meters = lent.meters;
-    let interties = lent.interties;
-    let mut shares: [u64; WORDS] = [9; WORDS];
-    let outcome = call_disburse::recover(
+    let mut shares = [9; WORDS];
+    share(
+        rt,
+        "recover",
         book_with(account),
-        Cents(total),
-        &provincial,
-        &export,
-        &meters,
-        &interties,
+        total,
+        whole(&lent),
         &mut shares,
-    );
-    show(rt, outcome, &shares)
+        call_disburse::recover,
+    )
 }
 
 fn heading(rt: &impl Print, name: &[u8]) -> io::Result<()> {
@@ -289,51 +335,53 @@ fn energy_cases(rt: &impl Print) -> io::Result<()> {
 }
 
 // Disburses by lists of any length into a list of 32 words.
-fn disburse_by(
-    rt: &impl Print,
-    account: i64,
-    total: u64,
-    provincial: &[u32],
-    export: &[u32],
-    meters: &[u32],
-    interties: &[u32],
-) -> io::Result<()> {
-    show_case(rt, b"disburse", account, total)?;
-    let mut shares: [u64; 32] = [9; 32];
-    let outcome = call_disburse::disburse(
+fn disburse_by(rt: &impl Print, account: i64, total: u64, lent: Lent<'_>) -> io::Result<()> {
+    let mut shares = [9; 32];
+    share(
+        rt,
+        "disburse",
         book_with(account),
-        Cents(total),
-        provincial,
-        export,
-        meters,
-        interties,
+        total,
+        lent,
         &mut shares,
-    );
-    show(rt, outcome, &shares)
+        call_disburse::disburse,
+    )
 }
 
 // Each list in turn with 31 words among lists of 32, and then none.
 fn short_cases(rt: &impl Print, account: i64, total: u64) -> io::Result<()> {
-    let ones: [u32; 32] = [1; 32];
-    let few: [u32; 31] = [1; 31];
-    disburse_by(rt, account, total, &few, &ones, &ones, &ones)?;
-    disburse_by(rt, account, total, &ones, &few, &ones, &ones)?;
-    disburse_by(rt, account, total, &ones, &ones, &few, &ones)?;
-    disburse_by(rt, account, total, &ones, &ones, &ones, &few)?;
-    disburse_by(rt, account, total, &ones, &ones, &ones, &ones)
+    let ones = filled(1, 1);
+    disburse_by(rt, account, total, cut(&ones, 31, 32, 32, 32))?;
+    disburse_by(rt, account, total, cut(&ones, 32, 31, 32, 32))?;
+    disburse_by(rt, account, total, cut(&ones, 32, 32, 31, 32))?;
+    disburse_by(rt, account, total, cut(&ones, 32, 32, 32, 31))?;
+    disburse_by(rt, account, total, enough(&ones))
 }
 
 // A list of 31 words for the shares.
 fn short_shares(rt: &impl Print, account: i64, total: u64) -> io::Result<()> {
-    let ones: [u32; 32] = [1; 32];
-    let mut shares: [u64; 31] = [9; 31];
+    let ones = filled(1, 1);
+    let all = enough(&ones);
     let book = book_with(account);
-    show_case(rt, b"disburse", account, total)?;
-    let out = call_disburse::disburse(book, Cents(total), &ones, &ones, &ones, &ones, &mut shares);
-    show(rt, out, &shares)?;
-    show_case(rt, b"recover", account, total)?;
-    let back = call_disburse::recover(book, Cents(total), &ones, &ones, &ones, &ones, &mut shares);
-    show(rt, back, &shares)
+    let mut shares = [9; 31];
+    share(
+        rt,
+        "disburse",
+        book,
+        total,
+        all,
+        &mut shares,
+        call_disburse::disburse,
+    )?;
+    share(
+        rt,
+        "recover",
+        book,
+        total,
+        all,
+        &mut shares,
+        call_disburse::recover,
+    )
 }
 
 fn order_cases(rt: &impl Print) -> io::Result<()> {
@@ -351,21 +399,6 @@ fn order_cases(rt: &impl Print) -> io::Result<()> {
     recover(rt, -1, 1, none)
 }
 
-// The book at a stage.
-fn in_stage(book: Book, stage: Stage) -> Book {
-    let paths = book.paths;
-    let bidders = book.bidders;
-    let account = book.account;
-    Book {
-        paths,
-        path_count: book.path_count,
-        bidders,
-        account,
-        entries: book.entries,
-        stage,
-    }
-}
-
 // Inside an auction the calls are taken too.
 fn stage_case(rt: &impl Print) -> io::Result<()> {
     heading(rt, b"- inside an auction")?;
@@ -373,19 +406,25 @@ fn stage_case(rt: &impl Print) -> io::Result<()> {
         first: Day(1),
         last: Day(2),
     };
-    let open = Stage::Open {
+    let stage = Stage::Open {
         kind: Kind::Long,
         round: 1,
         period,
     };
-    let book = in_stage(book_with(RESERVE + 64), open);
-    let ones: [u32; 32] = [1; 32];
-    let mut shares: [u64; 32] = [9; 32];
-    show_case(rt, b"disburse", RESERVE + 64, 64)?;
-    show(
+    let book = Book {
+        stage,
+        ..book_with(RESERVE + 64)
+    };
+    let ones = filled(1, 1);
+    let mut shares = [9; 32];
+    share(
         rt,
-        call_disburse::disburse(book, Cents(64), &ones, &ones, &ones, &ones, &mut shares),
-        &shares,
+        "disburse",
+        book,
+        64,
+        enough(&ones),
+        &mut shares,
+        call_disburse::disburse,
     )
 }
 

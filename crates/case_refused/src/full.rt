@@ -59,16 +59,10 @@ fn round(rt: &impl Print, entries: usize, second: u32) -> io::Result<()>
     show_last(rt, &words)
 }
 
-fn wide(n: u32) -> u64 {
-    n as u64
-}
-
 // The last two places of the register.
 fn show_last(rt: &impl Print, words: &[u32; WORDS]) -> io::Result<()> {
-    report::text(rt, b"last places")?;
-    for at in 6_132..WORDS {
-        report::number(rt, wide(words[at]))?;
-    }
+    print!(rt; "last places")?;
+    report::numbers(rt, &words[6_132..])?;
     report::line(rt)
 }
 

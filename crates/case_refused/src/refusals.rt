@@ -1,4 +1,6 @@
 // The refusals of a round. The line after a round's line says whether book, register and lent lists are as they were.
+ghost use Rattle.std.specs.Prelude.{◌*◌, ◌^◌, ◌<◌};
+
 use crate::full;
 use call_funding::Funds;
 use case_tools::{calls, report, same, show};
@@ -7,6 +9,19 @@ use market::engine::Engine;
 use std::io;
 
 const WORDS: usize = Engine::REGISTER_WORDS;
+
+// The lengths of the lists that a round writes to, as stated and a word too short.
+const ANSWERS: usize = Engine::BID_ANSWER_WORDS;
+
+const FEW_ANSWERS: usize = ANSWERS - 1;
+
+const RESULTS: usize = Engine::PATH_ANSWER_WORDS;
+
+const FEW_RESULTS: usize = RESULTS - 1;
+
+const SCRATCH: usize = Engine::SCRATCH_WORDS;
+
+const LITTLE_SCRATCH: usize = SCRATCH - 1;
 
 // A book with two paths, and bidder 3's cash and bidder 7's letter; its auction is open, with `entries` entries in the register.
 fn opened(rt: &impl Print, register: [u32; WORDS], entries: usize) -> io::Result<Book> {
@@ -28,47 +43,32 @@ fn opened(rt: &impl Print, register: [u32; WORDS], entries: usize) -> io::Result
 }
 
 fn sums(words: &[u32], answers: &[u64], results: &[u64], scratch: &[u32]) -> u64 {
-    let one = same::wide_sum(same::sum(1, words), answers);
-    same::sum(same::wide_sum(one, results), scratch)
+    let one = same::sum(same::sum(1, words), answers);
+    same::sum(same::sum(one, results), scratch)
 }
 
 fn show_same(rt: &impl Print, book: bool, lists: bool) -> io::Result<()> {
-    if book {
-        report::text(rt, b"book same")?;
-    } else {
-        report::text(rt, b"book differs")?;
-    }
-    if lists {
-        report::text(rt, b", lists same")?;
-    } else {
-        report::text(rt, b", lists differ")?;
-    }
-    report::line(rt)
+    let held = if book { "same" } else { "differs" };
+    let lent = if lists { "same" } else { "differ" };
+    println!(rt; "book {held}, lists {lent}")
 }
 
-// A round, and whether it leaves all as it was.
-fn round(
+// A round with lists of these lengths, and whether it leaves all as it was.
+fn round<const A: usize, const R: usize, const S: usize>(
     rt: &impl Print,
     book: Book,
     words: &mut [u32],
     bids: &[u32],
-    answers: &mut [u64],
-    results: &mut [u64],
-    scratch: &mut [u32],
-) -> io::Result<Book> {
-    let before = sums(words, answers, results, scratch);
-    let outcome = calls::round(rt, book, words, bids, answers, results, scratch)?;
-    let after = sums(words, answers, results, scratch);
-    show_same(rt, same::books(book, outcome.book), before == after)?;
-    Ok(outcome.book)
-}
-
-// A round with lists of the stated lengths, and the book after it.
-pub fn lent(rt: &impl Print, book: Book, words: &mut [u32], bids: &[u32]) -> io::Result<Book> {
-    let mut answers = [show::BLANK_WIDE; Engine::BID_ANSWER_WORDS];
-    let mut results = [show::BLANK_WIDE; Engine::PATH_ANSWER_WORDS];
-    let mut scratch = [show::BLANK; Engine::SCRATCH_WORDS];
-    round(
+) -> io::Result<Book>
+    requires answers_fit { A * 8 < 2 ^ 63 }
+    requires results_fit { R * 8 < 2 ^ 63 }
+    requires scratch_fits { S * 4 < 2 ^ 63 }
+{
+    let mut answers = [show::BLANK_WIDE; A];
+    let mut results = [show::BLANK_WIDE; R];
+    let mut scratch = [show::BLANK; S];
+    let before = sums(words, &answers, &results, &scratch);
+    let outcome = calls::round(
         rt,
         book,
         words,
@@ -76,84 +76,41 @@ pub fn lent(rt: &impl Print, book: Book, words: &mut [u32], bids: &[u32]) -> io:
         &mut answers,
         &mut results,
         &mut scratch,
-    )
+    )?;
+    let after = sums(words, &answers, &results, &scratch);
+    show_same(rt, book == outcome.book, before == after)?;
+    Ok(outcome.book)
 }
 
-// The same over a copy of the register.
+// A round with lists of the stated lengths, and the book after it.
+pub fn lent(rt: &impl Print, book: Book, words: &mut [u32], bids: &[u32]) -> io::Result<Book> {
+    round::<ANSWERS, RESULTS, SCRATCH>(rt, book, words, bids)
+}
+
+// A round with lists of these lengths over a copy of the register.
+fn apart_by<const A: usize, const R: usize, const S: usize>(
+    rt: &impl Print,
+    book: Book,
+    register: [u32; WORDS],
+    bids: &[u32],
+) -> io::Result<()>
+    requires answers_fit { A * 8 < 2 ^ 63 }
+    requires results_fit { R * 8 < 2 ^ 63 }
+    requires scratch_fits { S * 4 < 2 ^ 63 }
+{
+    let mut words = register;
+    round::<A, R, S>(rt, book, &mut words, bids)?;
+    Ok(())
+}
+
+// The same with lists of the stated lengths.
 fn apart(rt: &impl Print, book: Book, register: [u32; WORDS], bids: &[u32]) -> io::Result<()> {
-    let mut words = register;
-    lent(rt, book, &mut words, bids)?;
-    Ok(())
+    apart_by::<ANSWERS, RESULTS, SCRATCH>(rt, book, register, bids)
 }
 
-fn short_answers(
-    rt: &impl Print,
-    book: Book,
-    register: [u32; WORDS],
-    bids: &[u32],
-) -> io::Result<()> {
-    let mut words = register;
-    let mut answers = [show::BLANK_WIDE; Engine::BID_ANSWER_WORDS - 1];
-    let mut results = [show::BLANK_WIDE; Engine::PATH_ANSWER_WORDS];
-    let mut scratch = [show::BLANK; Engine::SCRATCH_WORDS];
-    round(
-        rt,
-        book,
-        &mut words,
-        bids,
-        &mut answers,
-        &mut results,
-        &mut scratch,
-    )?;
-    Ok(())
-}
-
-fn short_results(
-    rt: &impl Print,
-    book: Book,
-    register: [u32; WORDS],
-    bids: &[u32],
-) -> io::Result<()> {
-    let mut words = register;
-    let mut answers = [show::BLANK_WIDE; Engine::BID_ANSWER_WORDS];
-    let mut results = [show::BLANK_WIDE; Engine::PATH_ANSWER_WORDS - 1];
-    let mut scratch = [show::BLANK; Engine::SCRATCH_WORDS];
-    round(
-        rt,
-        book,
-        &mut words,
-        bids,
-        &mut answers,
-        &mut results,
-        &mut scratch,
-    )?;
-    Ok(())
-}
-
-fn short_scratch(
-    rt: &impl Print,
-    book: Book,
-    register: [u32; WORDS],
-    bids: &[u32],
-) -> io::Result<()> {
-    let mut words = register;
-    let mut answers = [show::BLANK_WIDE; Engine::BID_ANSWER_WORDS];
-    let mut results = [show::BLANK_WIDE; Engine::PATH_ANSWER_WORDS];
-    let mut scratch = [show::BLANK; Engine::SCRATCH_WORDS - 1];
-    round(
-        rt,
-        book,
-        &mut words,
-        bids,
-        &mut answers,
-        &mut results,
-        &mut scratch,
-    )?;
-    Ok(())
-}
-
+// A round with a register that is a word too short.
 fn short_register(rt: &impl Print, book: Book, bids: &[u32]) -> io::Result<()> {
-    let mut words = [show::BLANK; Engine::REGISTER_WORDS - 1];
+    let mut words = [show::BLANK; WORDS - 1];
     lent(rt, book, &mut words, bids)?;
     Ok(())
 }
@@ -163,9 +120,9 @@ fn short_lists(rt: &impl Print) -> io::Result<()> {
     let words = [show::BLANK; WORDS];
     let book = opened(rt, words, 0)?;
     let bids = [3u32, 0, 100, 1, 20_000, 20];
-    short_answers(rt, book, words, &bids)?;
-    short_results(rt, book, words, &bids)?;
-    short_scratch(rt, book, words, &bids)?;
+    apart_by::<FEW_ANSWERS, RESULTS, SCRATCH>(rt, book, words, &bids)?;
+    apart_by::<ANSWERS, FEW_RESULTS, SCRATCH>(rt, book, words, &bids)?;
+    apart_by::<ANSWERS, RESULTS, LITTLE_SCRATCH>(rt, book, words, &bids)?;
     short_register(rt, book, &bids)?;
     apart(rt, book, words, &bids)
 }
@@ -175,7 +132,7 @@ fn idle_order(rt: &impl Print) -> io::Result<()> {
     let words = full::filled(1_024);
     let bids = [0u32; Engine::BID_LIST_WORDS + 1];
     let unsound = book_parts::with_entries(calls::fresh(2), 1_025);
-    short_answers(rt, unsound, words, &bids)?;
+    apart_by::<FEW_ANSWERS, RESULTS, SCRATCH>(rt, unsound, words, &bids)?;
     apart(rt, unsound, words, &bids)?;
     apart(rt, book_parts::with_entries(unsound, 1_024), words, &bids)
 }
@@ -221,22 +178,13 @@ fn bid_order(rt: &impl Print) -> io::Result<()> {
     )
 }
 
-// A round of the first `end` words of two bids.
-fn first_words(rt: &impl Print, book: Book, words: [u32; WORDS], end: usize) -> io::Result<()> {
-    let bids = [3u32, 0, 100, 2, 500, 20, 400, 20, 7, 0, 100, 1, 300, 5];
-    let list = &bids[..];
-    if end <= list.len() {
-        apart(rt, book, words, &list[0..end])?;
-    }
-    Ok(())
-}
-
 // Two bids cut short at every place; 8 words are the first bid, and 14 both.
 fn cut_short(rt: &impl Print) -> io::Result<()> {
     let words = [show::BLANK; WORDS];
     let book = opened(rt, words, 0)?;
-    for end in 0..15usize {
-        first_words(rt, book, words, end)?;
+    let bids = [3u32, 0, 100, 2, 500, 20, 400, 20, 7, 0, 100, 1, 300, 5];
+    for end in 0..=14usize {
+        apart(rt, book, words, &bids[..end])?;
     }
     Ok(())
 }

@@ -1,5 +1,5 @@
 // The calls, each lent the lists that it uses, and for any other list a list of one word. Each prints its line.
-use crate::{report, show};
+use crate::show;
 use call_funding::Funds;
 use engine::calls::Call;
 use market::answer::Outcome;
@@ -18,40 +18,57 @@ pub fn fresh(paths: usize) -> Book {
         direction: Direction::Import,
         zone: 5,
     };
-    let made = Engine::fresh(routes, paths);
-    made.book
+    Engine::fresh(routes, paths).book
 }
 
-// A call that is lent the register alone.
-fn plain(book: Book, words: &mut [u32], what: Call) -> Outcome {
+// A call that is lent the register, and the lists that an open reads and a round reads and writes to.
+fn lent(
+    book: Book,
+    words: &mut [u32],
+    what: Call,
+    quantities: &[u32],
+    bids: &[u32],
+    answers: &mut [u64],
+    results: &mut [u64],
+    scratch: &mut [u32],
+) -> Outcome {
     let none = [0u32; 1];
     let prices = [0i64; 1];
     let mut amounts = [0u64; 1];
-    let mut answers = [0u64; 1];
-    let mut results = [0u64; 1];
-    let mut scratch = [0u32; 1];
     engine::call(
         book,
         words,
         what,
-        &none,
-        &none,
+        quantities,
+        bids,
         &prices,
         &none,
         &none,
         &none,
         &none,
         &mut amounts,
+        answers,
+        results,
+        scratch,
+    )
+}
+
+// A call that is no round.
+fn plain(book: Book, words: &mut [u32], what: Call, quantities: &[u32]) -> Outcome {
+    let none = [0u32; 1];
+    let mut answers = [0u64; 1];
+    let mut results = [0u64; 1];
+    let mut scratch = [0u32; 1];
+    lent(
+        book,
+        words,
+        what,
+        quantities,
+        &none,
         &mut answers,
         &mut results,
         &mut scratch,
     )
-}
-
-// A call that is lent no list.
-fn unlent(book: Book, what: Call) -> Outcome {
-    let mut words = [0u32; 1];
-    plain(book, &mut words, what)
 }
 
 // A deposit: its line, and the outcome.
@@ -63,13 +80,13 @@ pub fn deposit(
     amount: u64,
 ) -> io::Result<Outcome> {
     show::account_call(rt, b"deposit", bidder, to, amount)?;
-    let cents = Cents(amount);
     let what = Call::Deposit {
         bidder,
         to,
-        amount: cents,
+        amount: Cents(amount),
     };
-    show::answered(rt, unlent(book, what))
+    let mut words = [0u32; 1];
+    show::answered(rt, plain(book, &mut words, what, &[0]))
 }
 
 // An auction opened with the quantities of its paths; the register is lent.
@@ -88,31 +105,7 @@ pub fn open(
         last: Day(last),
     };
     let what = Call::Open { kind, period };
-    let none = [0u32; 1];
-    let prices = [0i64; 1];
-    let mut amounts = [0u64; 1];
-    let mut answers = [0u64; 1];
-    let mut results = [0u64; 1];
-    let mut scratch = [0u32; 1];
-    show::answered(
-        rt,
-        engine::call(
-            book,
-            words,
-            what,
-            quantities,
-            &none,
-            &prices,
-            &none,
-            &none,
-            &none,
-            &none,
-            &mut amounts,
-            &mut answers,
-            &mut results,
-            &mut scratch,
-        ),
-    )
+    show::answered(rt, plain(book, words, what, quantities))
 }
 
 // A round of a list of bids; the register and the round's own lists are lent.
@@ -125,28 +118,16 @@ pub fn round(
     results: &mut [u64],
     scratch: &mut [u32],
 ) -> io::Result<Outcome> {
-    report::text(rt, b"round")?;
-    report::number(rt, bids.len() as u64)?;
-    let none = [0u32; 1];
-    let prices = [0i64; 1];
-    let mut amounts = [0u64; 1];
-    show::answered(
-        rt,
-        engine::call(
-            book,
-            words,
-            Call::Round,
-            &none,
-            bids,
-            &prices,
-            &none,
-            &none,
-            &none,
-            &none,
-            &mut amounts,
-            answers,
-            results,
-            scratch,
-        ),
-    )
+    print!(rt; "round {}", bids.len())?;
+    let outcome = lent(
+        book,
+        words,
+        Call::Round,
+        &[0],
+        bids,
+        answers,
+        results,
+        scratch,
+    );
+    show::answered(rt, outcome)
 }

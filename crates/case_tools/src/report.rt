@@ -14,6 +14,14 @@ pub fn number(rt: &impl Print, n: u64) -> io::Result<()> {
     print!(rt; " {n}")
 }
 
+// A space and each number of a list.
+pub fn numbers<T: Copy + Into<u64>>(rt: &impl Print, words: &[T]) -> io::Result<()> {
+    for word in words {
+        number(rt, (*word).into())?;
+    }
+    Ok(())
+}
+
 // A space and an amount.
 pub fn amount(rt: &impl Print, a: Cents) -> io::Result<()> {
     number(rt, a.0)
@@ -22,40 +30,29 @@ pub fn amount(rt: &impl Print, a: Cents) -> io::Result<()> {
 // A space and a balance with its sign; a balance past the account's limit is not written out.
 pub fn signed(rt: &impl Print, account: Balance) -> io::Result<()> {
     if !book_account::sound(account) {
-        return text(rt, b" beyond");
+        return print!(rt; " beyond");
     }
-    let size = book_account::magnitude(account.0);
-    if book_account::below_zero(account) {
-        print!(rt; " -{size}")
-    } else {
-        print!(rt; " {size}")
-    }
+    print!(rt; " {}", account.0)
 }
 
 // A bidder: cash, applied, letter, hold, owed, step.
 pub fn bidder(rt: &impl Print, x: Bidder) -> io::Result<()> {
-    let cash = x.cash;
-    let applied = x.applied;
-    let letter = x.letter;
-    let hold = x.hold;
-    let owed = x.owed;
-    amount(rt, cash)?;
-    amount(rt, applied)?;
-    amount(rt, letter)?;
-    amount(rt, hold)?;
-    amount(rt, owed)?;
-    number(rt, x.step as u64)
+    amount(rt, x.cash)?;
+    amount(rt, x.applied)?;
+    amount(rt, x.letter)?;
+    amount(rt, x.hold)?;
+    amount(rt, x.owed)?;
+    print!(rt; " {}", x.step)
 }
 
 // The number of an outcome: the refusal's, 0 where the call is answered.
 pub fn answer(rt: &impl Print, outcome: Outcome) -> io::Result<()> {
-    let said = outcome.answer;
-    number(rt, said.number() as u64)
+    print!(rt; " {}", outcome.answer.number())
 }
 
 // The end of a line.
 pub fn line(rt: &impl Print) -> io::Result<()> {
-    text(rt, b"\n")
+    println!(rt; "")
 }
 
 // The name of a case, on a line of its own.

@@ -2,8 +2,7 @@
 use crate::report;
 use call_funding::Funds;
 use market::answer::{Answer, Outcome};
-use market::book::{Book, Kind, Period, Stage};
-use market::units::Day;
+use market::book::{Book, Kind, Stage};
 use std::io;
 
 // What every lent word is before a call writes to it.
@@ -18,10 +17,11 @@ pub fn heading(rt: &impl Print, name: &[u8]) -> io::Result<()> {
     report::line(rt)
 }
 
-fn funds(rt: &impl Print, given: Funds) -> io::Result<()> {
+// The word for what is deposited or withdrawn.
+pub fn funds(given: Funds) -> &'static str {
     match given {
-        Funds::Cash => report::text(rt, b" cash"),
-        Funds::Letter => report::text(rt, b" letter"),
+        Funds::Cash => "cash",
+        Funds::Letter => "letter",
     }
 }
 
@@ -34,53 +34,31 @@ pub fn account_call(
     amount: u64,
 ) -> io::Result<()> {
     report::text(rt, name)?;
-    report::number(rt, bidder as u64)?;
-    funds(rt, given)?;
-    report::number(rt, amount)
+    print!(rt; " {bidder} {} {amount}", funds(given))
 }
 
-fn kind_of(rt: &impl Print, kind: Kind) -> io::Result<()> {
+// The letter of a kind.
+fn letter(kind: Kind) -> char {
     match kind {
-        Kind::Short => report::text(rt, b" S"),
-        Kind::Long => report::text(rt, b" L"),
+        Kind::Short => 'S',
+        Kind::Long => 'L',
     }
-}
-
-fn day(rt: &impl Print, given: Day) -> io::Result<()> {
-    report::number(rt, given.0 as u64)
-}
-
-fn days(rt: &impl Print, period: Period) -> io::Result<()> {
-    let first = period.first;
-    let last = period.last;
-    day(rt, first)?;
-    day(rt, last)
 }
 
 // An open: its kind and days.
 pub fn open_call(rt: &impl Print, kind: Kind, first: u32, last: u32) -> io::Result<()> {
-    report::text(rt, b"open")?;
-    kind_of(rt, kind)?;
-    report::number(rt, first as u64)?;
-    report::number(rt, last as u64)
+    print!(rt; "open {} {first} {last}", letter(kind))
 }
 
 // The end of a call's line: the refusal's number, 0 where the call is answered, and a draw or a number of bids.
 pub fn answered(rt: &impl Print, outcome: Outcome) -> io::Result<Outcome> {
-    report::text(rt, b":")?;
+    print!(rt; ":")?;
     report::answer(rt, outcome)?;
-    let said = outcome.answer;
-    match said {
+    match outcome.answer {
         Answer::Refused(_number) => {}
         Answer::Done => {}
-        Answer::Drawn(draw) => {
-            report::text(rt, b" draw")?;
-            report::amount(rt, draw)?;
-        }
-        Answer::Bids(bids) => {
-            report::text(rt, b" bids")?;
-            report::number(rt, bids as u64)?;
-        }
+        Answer::Drawn(draw) => print!(rt; " draw {}", draw.0)?,
+        Answer::Bids(bids) => print!(rt; " bids {bids}")?,
     }
     report::line(rt)?;
     Ok(outcome)
@@ -88,28 +66,25 @@ pub fn answered(rt: &impl Print, outcome: Outcome) -> io::Result<Outcome> {
 
 fn stage(rt: &impl Print, given: Stage) -> io::Result<()> {
     match given {
-        Stage::Idle => report::text(rt, b" idle"),
+        Stage::Idle => print!(rt; " idle"),
         Stage::Open {
             kind,
             round,
             period,
-        } => {
-            report::text(rt, b" open")?;
-            kind_of(rt, kind)?;
-            report::number(rt, round as u64)?;
-            days(rt, period)
-        }
+        } => print!(rt;
+            " open {} {round} {} {}",
+            letter(kind),
+            period.first.0,
+            period.last.0
+        ),
     }
 }
 
 // The account, the number of entries, and the stage.
 pub fn book(rt: &impl Print, given: Book) -> io::Result<()> {
-    let account = given.account;
-    let at = given.stage;
-    report::text(rt, b"account")?;
-    report::signed(rt, account)?;
-    report::text(rt, b" entries")?;
-    report::number(rt, given.entries as u64)?;
-    stage(rt, at)?;
+    print!(rt; "account")?;
+    report::signed(rt, given.account)?;
+    print!(rt; " entries {}", given.entries)?;
+    stage(rt, given.stage)?;
     report::line(rt)
 }
