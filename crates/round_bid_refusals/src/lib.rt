@@ -14,12 +14,8 @@ use round_bids::{Header, Lamination};
 fn sound_lamination(lamination: Lamination) -> bool
     ensures { result ≡ sound_lamination lamination }
 {
-    let price = lamination.price;
-    let quantity = lamination.quantity;
-    (1 <= price.0)
-        & (price.0 <= Engine::PRICE_LIMIT)
-        & (1 <= quantity.0)
-        & (quantity.0 <= Engine::QUANTITY_LIMIT)
+    (1..=Engine::PRICE_LIMIT).contains(&lamination.price.0)
+        && (1..=Engine::QUANTITY_LIMIT).contains(&lamination.quantity.0)
 }
 
 // Whether each of `count` pairs from word `at` on is sound, and its price below the one before it.
@@ -27,14 +23,13 @@ fn sound_laminations(words: &[u32], at: usize, count: u32) -> bool
     requires { at + count * pair_words ≤ length words.now }
     ensures { result ≡ sound_laminations above_prices (laminations_at words.now at count) }
 {
-    let mut before: u64 = Engine::PRICE_LIMIT + 1;
+    let mut before = Engine::PRICE_LIMIT + 1;
     for i in 0..count {
         let lamination = round_bids::lamination_at(words, at + (i as usize) * Engine::PAIR_WORDS);
-        let price = lamination.price;
-        if !(sound_lamination(lamination) & (price.0 < before)) {
+        if !(sound_lamination(lamination) & (lamination.price.0 < before)) {
             return false;
         }
-        before = price.0;
+        before = lamination.price.0;
     }
     true
 }
@@ -43,10 +38,9 @@ fn sound_laminations(words: &[u32], at: usize, count: u32) -> bool
 fn sound_header(header: Header, paths: usize) -> bool
     ensures { result ≡ sound_header paths header }
 {
-    ((header.bidder as usize) < Engine::BIDDERS)
-        & ((header.path as usize) < paths)
-        & (1 <= header.count)
-        & (header.count <= Engine::LAMINATIONS)
+    (header.bidder as usize) < Engine::BIDDERS
+        && (header.path as usize) < paths
+        && (1..=Engine::LAMINATIONS).contains(&header.count)
 }
 
 // Whether the bid at a place is whole and its fields are sound. Its number of pairs is tested before anything is
@@ -84,7 +78,7 @@ pub fn refusal(words: &[u32], paths: usize) -> u32
     ensures { result ≡ first_of (list_refusals paths words.now) }
 {
     let mut seen = [false; Engine::PAIRS];
-    let mut stamp: u32 = 0;
+    let mut stamp = 0;
     let mut at: usize = 0;
     while at < words.len() {
         if !sound_bid(words, at, paths) {

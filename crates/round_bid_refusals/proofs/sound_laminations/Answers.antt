@@ -6,14 +6,14 @@ use Rattle.round_bid_refusals.proofs.sound_laminations.Goals as goal
 pub loop-i-init : goal.loop-i-init
 loop-i-init c = (search rules, let a = c.args in tested-none a.words.now a.at a.count)
 
-pub returns-then-not-sound_lamination-price : goal.returns-then-not-sound_lamination-price
-returns-then-not-sound_lamination-price c = let a = c.args in
+pub returns-then-not-sound_lamination-lamination : goal.returns-then-not-sound_lamination-lamination
+returns-then-not-sound_lamination-lamination c = let a = c.args in
     let at = c.loop-i in
     let lam = c.lamination_at-lamination in
     let test = c.sound_lamination in
     sym
     (tested-fails a.words.now a.at a.count at.i at.before at.invariant.1 lam.result lam.ensures test.result test.ensures (search rules)
-    (c.if-not-sound_lamination-price.true))
+    (c.if-not-sound_lamination-lamination.true))
 
 pub loop-i-preserved : goal.loop-i-preserved
 loop-i-preserved c = let a = c.args in
@@ -22,7 +22,7 @@ loop-i-preserved c = let a = c.args in
     let test = c.sound_lamination in (
       search rules,
       (tested-next a.words.now a.at a.count at.i at.before at.invariant.1 lam.result lam.ensures test.result test.ensures (search rules)
-          (c.if-not-sound_lamination-price.false)),
+          (c.if-not-sound_lamination-lamination.false)),
     )
 
 pub returns : goal.returns
