@@ -51,13 +51,11 @@ pub fn claim_in(words: &[u32], word: u32) -> Claim
 {
     let of = (word as usize) / Engine::BID_LIST_WORDS / MORE;
     let pair = round_bids::lamination_at(words, place_in(word));
-    let price = pair.price;
-    let quantity = pair.quantity;
     Claim {
         bid: of / Engine::PATHS,
         path: of % Engine::PATHS,
-        price,
-        quantity,
+        price: pair.price,
+        quantity: pair.quantity,
     }
 }
 
