@@ -116,6 +116,10 @@ module _ (paths : ℕ) (words : List ℕ) (k at : ℕ) (w : Walk paths words k a
       go zero = refl
       go (suc n) = ap (λ (t : Bool). cond t [] (bid_at words at ∷ bids_from n words (bid_end words at))) (le-leb (length words) at end)
 
+  -- so every bid was counted
+  pub all-counted : length words ≤ at → k ≡ length (bids_of words)
+  all-counted end = omega (arith, w.counted ∙ ap (λ (l : List Bid). k + length l) (walk-done end))
+
   module _ (below : at < length words) where
     here : Split paths w.more words at
     here = split paths w.more words at below w.enough w.sound
@@ -130,6 +134,10 @@ module _ (paths : ℕ) (words : List ℕ) (k at : ℕ) (w : Walk paths words k a
         let fits = fits-list paths words at bid-right in
         let some = (right-bounds paths words at bid-right).some in
         omega (arith, fits, some, w.places)
+
+    -- and below the number of bids
+    pub number-below : k < length (bids_of words)
+    number-below = omega (arith, w.counted ∙ ap (λ (l : List Bid). k + length l) here.bids)
 
     -- and the walk goes on after it
     pub walk-on : Walk paths words (k + 1) (bid_end words at)
