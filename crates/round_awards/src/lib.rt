@@ -26,26 +26,18 @@ pub struct Awarded {
 fn taken_of(quantity: Megawatts, left: Megawatts) -> Megawatts
     ensures { result.0 ≡ min quantity.0 left.0 }
 {
-    if quantity.0 <= left.0 {
-        return quantity;
-    }
-    left
+    quantity.min(left)
 }
 
 // The lower of two prices, where 0 stands for none.
 fn lower_of(price: Cents, other: Cents) -> Cents
     ensures { result.0 ≡ lower price.0 other.0 }
 {
-    if price.0 == 0 {
-        return other;
+    match (price.0, other.0) {
+        (0, _) => other,
+        (_, 0) => price,
+        _ => price.min(other),
     }
-    if other.0 == 0 {
-        return price;
-    }
-    if price.0 <= other.0 {
-        return price;
-    }
-    other
 }
 
 // The price at which a lamination took MW, 0 where it took none.
@@ -84,22 +76,12 @@ fn award(
     let mut word = first;
     while word != 0 {
         let claim = round_claims::claim_in(words, word);
-        let quantity = claim.quantity;
-        let price = claim.price;
-        let bid = claim.bid;
         let path = claim.path;
-        let before = left[path];
-        let bid_won = won[bid];
-        let path_sold = sold[path];
-        let taken = taken_of(quantity, before);
-        let lowest = lower_of(prices[path], price_at(taken, price));
-        let rest = before.0 - taken.0;
-        let won_now = bid_won.0 + taken.0;
-        let sold_now = path_sold.0 + taken.0;
-        left[path] = Megawatts(rest);
-        won[bid] = Megawatts(won_now);
-        sold[path] = Megawatts(sold_now);
-        prices[path] = lowest;
+        let taken = taken_of(claim.quantity, left[path]);
+        left[path].0 -= taken.0;
+        won[claim.bid].0 += taken.0;
+        sold[path].0 += taken.0;
+        prices[path] = lower_of(prices[path], price_at(taken, claim.price));
         word = round_order::next(words, count, word, tree);
     }
     Awarded { won, sold, prices }

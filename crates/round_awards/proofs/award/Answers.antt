@@ -33,8 +33,8 @@ few t some = omega (arith, bid-few t some, t.few)
 pub bounds-left-path : goal.bounds-left-path
 bounds-left-path c = c.claim_in-claim.ensures.within
 
-pub bounds-won-bid : goal.bounds-won-bid
-bounds-won-bid c = omega (arith, few c.loop-word.invariant.1.0 c.loop-word-test.true, c.claim_in-claim.ensures.bid)
+pub bounds-won-claim : goal.bounds-won-claim
+bounds-won-claim c = omega (arith, few c.loop-word.invariant.1.0 c.loop-word-test.true, c.claim_in-claim.ensures.bid)
 
 pub bounds-sold-path : goal.bounds-sold-path
 bounds-sold-path c = c.claim_in-claim.ensures.within
@@ -42,11 +42,8 @@ bounds-sold-path c = c.claim_in-claim.ensures.within
 pub bounds-prices-path : goal.bounds-prices-path
 bounds-prices-path c = c.claim_in-claim.ensures.within
 
-pub overflow_sub-rest : goal.overflow_sub-rest
-overflow_sub-rest c = omega (arith, c.taken_of-taken.ensures)
-
-pub overflow_add-won_now : goal.overflow_add-won_now
-overflow_add-won_now c =
+pub overflow_add-won : goal.overflow_add-won
+overflow_add-won c =
     let a = c.args in
     let at = c.loop-word in
     let some = c.loop-word-test.true in
@@ -61,8 +58,8 @@ overflow_add-won_now c =
           (arith, left-within at.invariant.1.1 path, megawatts-at at.left path, c.taken_of-taken.ensures, room, megawatts-at at.won bid, c.requires.tree_len_bound);
     }
 
-pub overflow_add-sold_now : goal.overflow_add-sold_now
-overflow_add-sold_now c =
+pub overflow_add-sold : goal.overflow_add-sold
+overflow_add-sold c =
     let a = c.args in
     let at = c.loop-word in
     let some = c.loop-word-test.true in
@@ -79,8 +76,8 @@ overflow_add-sold_now c =
 pub bounds-left-path-in-loop-word : goal.bounds-left-path-in-loop-word
 bounds-left-path-in-loop-word c = c.claim_in-claim.ensures.within
 
-pub bounds-won-bid-in-loop-word : goal.bounds-won-bid-in-loop-word
-bounds-won-bid-in-loop-word c = omega (arith, few c.loop-word.invariant.1.0 c.loop-word-test.true, c.claim_in-claim.ensures.bid)
+pub bounds-won-claim-in-loop-word : goal.bounds-won-claim-in-loop-word
+bounds-won-claim-in-loop-word c = omega (arith, few c.loop-word.invariant.1.0 c.loop-word-test.true, c.claim_in-claim.ensures.bid)
 
 pub bounds-sold-path-in-loop-word : goal.bounds-sold-path-in-loop-word
 bounds-sold-path-in-loop-word c = c.claim_in-claim.ensures.within
@@ -105,7 +102,7 @@ loop-word-preserved c =
     let takes = min claim.quantity.0 (get_or (in_megawatts at.left) path 0) in
     let taken : c.taken_of-taken.result.0 ≡ takes = c.taken_of-taken.ensures ∙ ap (min claim.quantity.0) (sym (megawatts-at at.left path)) in
     let paid = c.price_at.ensures ∙ ap (λ (n : ℕ). cond (ltb 0 n) claim.price.0 0) taken in
-    let price = c.lower_of-lowest.ensures ∙ ap (lower (get_or at.prices path (cents 0)).0) paid in
+    let price = c.lower_of.ensures ∙ ap (lower (get_or at.prices path (cents 0)).0) paid in
     let left_is = map-change (λ x. x.0) at.left path (megawatts 0) _ (λ n. n - takes) (ap ((get_or at.left path (megawatts 0)).0 -◌) taken) in
     let won-is = map-change (λ x. x.0) at.won claim.bid (megawatts 0) _ (λ n. n + takes) (ap ((get_or at.won claim.bid (megawatts 0)).0 +◌) taken) in
     let sold-is = map-change (λ x. x.0) at.sold path (megawatts 0) _ (λ n. n + takes) (ap ((get_or at.sold path (megawatts 0)).0 +◌) taken) in
@@ -128,8 +125,5 @@ returns c =
       prices = all-priced inv.1.1 none;
     }
 
-pub offset_bounds-won-bid : goal.offset_bounds-won-bid
-offset_bounds-won-bid c = record { fits = omega (arith, few c.loop-word.invariant.1.0 c.loop-word-test.true, c.claim_in-claim.ensures.bid) }
-
-pub offset_bounds-won-bid-in-loop-word : goal.offset_bounds-won-bid-in-loop-word
-offset_bounds-won-bid-in-loop-word c = record { fits = omega (arith, few c.loop-word.invariant.1.0 c.loop-word-test.true, c.claim_in-claim.ensures.bid) }
+pub offset_bounds-won-claim : goal.offset_bounds-won-claim
+offset_bounds-won-claim c = record { fits = omega (arith, few c.loop-word.invariant.1.0 c.loop-word-test.true, c.claim_in-claim.ensures.bid) }
