@@ -1,7 +1,7 @@
 // The winning bids of a round: how many, whether the register has room for them, and their entries added to it.
 #![tactic(auto)]
 
-ghost use Rattle.std.specs.Prelude.{◌≡◌, cond, ◌++◌, ◌+◌, ◌≤◌, ◌*◌, leb, ltb, length};
+ghost use Rattle.std.specs.Prelude.{◌≡◌, cond, ◌++◌, ◌+◌, ◌≤◌, ◌*◌, leb, ltb, length, count_by};
 ghost use Rattle.market.specs.Books.{in_megawatts};
 ghost use Rattle.market.specs.Limits.{bid_limit, entry_limit, entry_words, register_words};
 ghost use Rattle.round_bids.specs.BidRefusals.{BidList};
@@ -13,25 +13,11 @@ use market::book::{Entry, Period};
 use market::engine::Engine;
 use market::units::Megawatts;
 
-// How many of the first `count` bids won any MW.
-fn winners(won: [Megawatts; Engine::BIDS], count: usize) -> usize
-    requires { count ≤ bid_limit }
-    ensures { result ≡ winners_in (in_megawatts won) count }
+// How many of these bids won any MW.
+fn winners(won: &[Megawatts]) -> usize
+    ensures { result ≡ count_by (λ quantity. ltb 0 quantity.0) won.now }
 {
-    let mut sum: usize = 0;
-    for k in 0..count {
-        sum += counted(won[k]);
-    }
-    sum
-}
-
-fn counted(won: Megawatts) -> usize
-    ensures { result ≡ cond (ltb 0 won.0) 1 0 }
-{
-    if 0 < won.0 {
-        return 1;
-    }
-    0
+    won.iter().filter(|quantity| 0 < quantity.0).count()
 }
 
 // Whether a register with `entries` entries has room for the winners among the first `count` bids.
@@ -40,8 +26,7 @@ pub fn has_room(entries: usize, won: [Megawatts; Engine::BIDS], count: usize) ->
     requires count_le_bid_limit { count ≤ bid_limit }
     ensures { result ≡ leb (entries + winners_in (in_megawatts won) count) entry_limit }
 {
-    let more = winners(won, count);
-    entries + more <= Engine::ENTRIES
+    entries + winners(&won[..count]) <= Engine::ENTRIES
 }
 
 // Adds an entry after the counted ones if it has any MW. Returns the new count.
@@ -50,8 +35,7 @@ fn add_if_won(register: &mut [u32], count: usize, entry: Entry) -> usize
     ensures count { result ≡ count + length (if_won entry) }
     ensures entries { register.new ≡ entries_written register.old (entries_of register.old count ++ if_won entry) }
 {
-    let quantity = entry.quantity;
-    if quantity.0 == 0 {
+    if entry.quantity.0 == 0 {
         return count;
     }
     register::append(register, count, entry);
@@ -75,21 +59,16 @@ pub fn add_entries(
         (entries_of register.old counted ++ new_entries period (in_megawatts won) (bids_of words.now)) }
 {
     let mut count = counted;
-    let mut k: usize = 0;
-    let mut at: usize = 0;
-    while at < words.len() {
+    for (k, at) in round_bids::places(words).enumerate() {
         let header = round_bids::header_at(words, at);
-        let taken = won[k];
         let entry = Entry {
             bidder: header.bidder,
             path: header.path,
-            quantity: taken,
+            quantity: won[k],
             period,
             state: Engine::PENDING,
         };
         count = add_if_won(register, count, entry);
-        k += 1;
-        at = round_bids::bid_end(words, at);
     }
     count
 }

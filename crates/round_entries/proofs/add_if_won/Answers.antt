@@ -8,9 +8,9 @@ use Rattle.market.specs.declared.book.Entry.{Entry}
 use Rattle.round_entries.proofs.EntryLaws.{none-won, won-none, won-some}
 use Rattle.round_entries.proofs.add_if_won.Goals as goal
 
-pub returns-then-quantity-eq0 : goal.returns-then-quantity-eq0
-returns-then-quantity-eq0 c = let a = c.args in
-    let none = won-none a.entry c.if-quantity-eq0.true in
+pub returns-then-entry-eq0 : goal.returns-then-entry-eq0
+returns-then-entry-eq0 c = let a = c.args in
+    let none = won-none a.entry c.if-entry-eq0.true in
     let size = ap (λ (l : List Entry). length l) none in
     record {
       count = omega (arith, size);
@@ -19,12 +19,12 @@ returns-then-quantity-eq0 c = let a = c.args in
 
 pub append-requires : goal.append-requires
 append-requires c = let a = c.args in
-    let size = ap (λ (l : List Entry). length l) (won-some a.entry c.if-quantity-eq0.false) in
+    let size = ap (λ (l : List Entry). length l) (won-some a.entry c.if-entry-eq0.false) in
     omega (arith, size)
 
 pub returns : goal.returns
 returns c = let a = c.args in
-    let one = won-some a.entry c.if-quantity-eq0.false in
+    let one = won-some a.entry c.if-entry-eq0.false in
     let size = ap (λ (l : List Entry). length l) one in
     record {
       count = omega (arith, size);
