@@ -5,6 +5,7 @@ use Prim.Native.Nat.{ℕ, zero, suc, ◌+◌, ◌<◌}
 use native.Mathlib.Omega.{arith}
 use lib.ListN.{length, get_or}
 use lib.Seq.{ext_get_or}
+use Rattle.pool_sharing.proofs.Totals.{total-cons}
 use Rattle.pool_sharing.specs.Sharing.{total}
 use Rattle.pool_columns.specs.Pools.{together}
 
@@ -35,4 +36,5 @@ pub together-total : (xs ys : List ℕ) → length xs ≡ length ys → total (t
 together-total [] [] h = omega arith
 together-total [] (y ∷ ys) h = absurd (no-shorter (length ys) (sym h))
 together-total (x ∷ xs) [] h = absurd (no-shorter (length xs) h)
-together-total (x ∷ xs) (y ∷ ys) h = omega (arith, together-total xs ys (omega arith))
+together-total (x ∷ xs) (y ∷ ys) h =
+    omega (arith, total-cons (x + y) (together xs ys), total-cons x xs, total-cons y ys, together-total xs ys (omega arith))

@@ -1,5 +1,6 @@
 -- The two pools of a total, the share of each participant in them, and the refusals of columns: rules 11.3, 11.4, 11.7 and 13.33.
-use Rattle.std.specs.Prelude.{Bool, not, ◌&&◌, List, [], ◌∷◌, ℕ, ◌+◌, ◌-◌, ◌*◌, ◌/◌, leb, ltb, eqb}
+use Rattle.std.specs.List.{zip}
+use Rattle.std.specs.Prelude.{Bool, not, ◌&&◌, List, [], ◌∷◌, map, ℕ, ◌+◌, ◌-◌, ◌*◌, ◌/◌, leb, ltb, eqb}
 use Rattle.market.specs.Answers.{Row, ◌gives◌}
 use Rattle.market.specs.Limits.{column_limit}
 use Rattle.pool_sharing.specs.Sharing.{total, eligible, pool_shares}
@@ -27,9 +28,7 @@ export_weights cols = eligible cols.export cols.interties
 
 -- the sum of each participant's cents in two lists
 abbrev pub together : List ℕ → List ℕ → List ℕ
-together (x ∷ xs) (y ∷ ys) = (x + y) ∷ together xs ys
-together [] ys = []
-together (x ∷ xs) [] = []
+together first second = map (λ p. p.0 + p.1) (zip first second)
 
 -- rule 11.7: a participant's share is its cents of both pools
 unfoldable pub shares_of : ℕ → Columns → List ℕ

@@ -26,14 +26,10 @@ pub struct Columns {
 fn columns_within(columns: Columns) -> bool
     ensures { result ≡ columns_within columns }
 {
-    let provincial = columns.provincial;
-    let export = columns.export;
-    let meters = columns.meters;
-    let interties = columns.interties;
-    (pool_sharing::column_total(provincial) <= Engine::COLUMN_LIMIT)
-        & (pool_sharing::column_total(export) <= Engine::COLUMN_LIMIT)
-        & (pool_sharing::column_total(meters) <= Engine::COLUMN_LIMIT)
-        & (pool_sharing::column_total(interties) <= Engine::COLUMN_LIMIT)
+    pool_sharing::column_total(columns.provincial) <= Engine::COLUMN_LIMIT
+        && pool_sharing::column_total(columns.export) <= Engine::COLUMN_LIMIT
+        && pool_sharing::column_total(columns.meters) <= Engine::COLUMN_LIMIT
+        && pool_sharing::column_total(columns.interties) <= Engine::COLUMN_LIMIT
 }
 
 // The charges of both sorts together.
@@ -41,9 +37,7 @@ fn all_charges(columns: Columns) -> u64
     requires { columns_within columns ≡ true }
     ensures { result ≡ all_charges columns }
 {
-    let provincial = columns.provincial;
-    let export = columns.export;
-    pool_sharing::column_total(provincial) + pool_sharing::column_total(export)
+    pool_sharing::column_total(columns.provincial) + pool_sharing::column_total(columns.export)
 }
 
 // The provincial pool of a total.
@@ -53,33 +47,28 @@ fn provincial_pool(total: Cents, columns: Columns) -> Cents
     requires columns_nonzero { 0 < all_charges columns }
     ensures { result ≡ cents (provincial_pool total.0 columns) }
 {
-    let provincial = columns.provincial;
-    Cents(total.0 * pool_sharing::column_total(provincial) / all_charges(columns))
+    Cents(total.0 * pool_sharing::column_total(columns.provincial) / all_charges(columns))
 }
 
 // The energy at meters of those with a provincial charge.
 fn provincial_weights(columns: Columns) -> [u32; Engine::BIDDERS]
     ensures { result ≡ provincial_weights columns }
 {
-    let charges = columns.provincial;
-    let energy = columns.meters;
-    pool_sharing::eligible_energy(charges, energy)
+    pool_sharing::eligible_energy(columns.provincial, columns.meters)
 }
 
 // The energy at interties of those with an export charge.
 fn export_weights(columns: Columns) -> [u32; Engine::BIDDERS]
     ensures { result ≡ export_weights columns }
 {
-    let charges = columns.export;
-    let energy = columns.interties;
-    pool_sharing::eligible_energy(charges, energy)
+    pool_sharing::eligible_energy(columns.export, columns.interties)
 }
 
 // Whether a pool has cents and nobody to get them.
 fn is_unshared(pool: Cents, weights: [u32; Engine::BIDDERS]) -> bool
     ensures { result ≡ unshared pool.0 weights }
 {
-    (0 < pool.0) & (pool_sharing::column_total(weights) == 0)
+    0 < pool.0 && pool_sharing::column_total(weights) == 0
 }
 
 // The refusal of the columns, 0 where there is none.
@@ -112,13 +101,7 @@ fn add_shares(
     requires second_bound { total (in_cents second) ≤ pool_limit }
     ensures { in_cents result ≡ together (in_cents first) (in_cents second) }
 {
-    let mut sums = [Cents(0); Engine::BIDDERS];
-    for i in 0..Engine::BIDDERS {
-        let one = first[i];
-        let other = second[i];
-        sums[i] = Cents(one.0 + other.0);
-    }
-    sums
+    std::array::from_fn(|i| Cents(first[i].0 + second[i].0))
 }
 
 // Each participant's share of a total.

@@ -9,7 +9,7 @@ use lib.Dec.{ltb}
 use lib.ListN.{length, get_or}
 use lib.Seq.{ext_get_or}
 use Rattle.market.proofs.Tests.{kept-at-most}
-use Rattle.pool_sharing.proofs.Totals.{total-at}
+use Rattle.pool_sharing.proofs.Totals.{total-at, total-cons}
 use Rattle.pool_sharing.specs.Sharing.{total, weight_of, eligible}
 
 -- each participant has a weight
@@ -40,7 +40,8 @@ all-eligible cs es ws p q h =
 pub eligible-total : (cs es : List ℕ) → total (eligible cs es) ≤ total es
 eligible-total [] es = omega arith
 eligible-total (c ∷ cs) [] = omega arith
-eligible-total (c ∷ cs) (e ∷ es) = omega (arith, kept-at-most (ltb 0 c) e, eligible-total cs es)
+eligible-total (c ∷ cs) (e ∷ es) =
+    omega (arith, total-cons (weight_of c e) (eligible cs es), total-cons e es, kept-at-most (ltb 0 c) e, eligible-total cs es)
 
 -- if one participant has a charge and energy, the weights are not all 0
 pub some-eligible : (cs es : List ℕ) (i : ℕ) → length cs ≡ length es → 0 < get_or cs i 0 → 0 < get_or es i 0 → 0 < total (eligible cs es)

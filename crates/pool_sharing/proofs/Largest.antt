@@ -7,6 +7,8 @@ use native.Mathlib.Omega.{arith}
 use lib.Dec.{leb, ltb}
 use lib.ListN.{length, get_or}
 use borrow.Author.Tests.{leb-true, leb-false, ltb-true, ltb-false}
+use Rattle.std.specs.List.{IsFirstMaxByKey}
+use Rattle.pool_sharing.proofs.Totals.{total-cons}
 use Rattle.pool_sharing.specs.Sharing.{total, biggest, largest}
 
 -- no element is above the largest
@@ -18,7 +20,7 @@ at_most (x ∷ l) (suc i) = omega (arith, at_most l i)
 -- if the largest is 0, all are 0
 pub all-zero : (l : List ℕ) → biggest l ≡ 0 → total l ≡ 0
 all-zero [] h = refl
-all-zero (x ∷ l) h = omega (arith, all-zero l (omega arith))
+all-zero (x ∷ l) h = omega (arith, total-cons x l, all-zero l (omega arith))
 
 -- the head `x` of a list, compared with the largest of the rest, which is `m` at the place `k`
 module _ (x m k : ℕ) (l : List ℕ) where
@@ -76,3 +78,8 @@ pub biggest-least : (l : List ℕ) (m : ℕ) → ((j : ℕ) → j < length l →
 biggest-least [] m h = omega arith
 biggest-least (x ∷ l) m h =
     omega (arith, h 0 (omega arith), biggest-least l m (λ (j : ℕ) (p : j < length l). h (suc j) (omega arith)))
+
+-- so the first largest of all elements is at that place
+pub best-of-all : (l : List ℕ) (i k : ℕ) → length l ≤ i → IsFirstMaxByKey (λ x. x) l i k → k ≡ largest l
+best-of-all l i k all best =
+    is-largest l k (biggest-least l (get_or l k 0) (λ (j : ℕ) (p : j < length l). best.1 j 0 (omega arith))) (λ (j : ℕ) (p : j < k). best.2 j 0 p)

@@ -1,5 +1,6 @@
 -- Laws about how a pool is shared.
 pub mod Totals
+pub mod Arrays
 pub mod Eligible
 pub mod Largest
 pub mod HandOut

@@ -8,12 +8,17 @@ use native.Mathlib.Omega.{arith}
 use lib.ListN.{length, get_or, replicate, length-map, get_or-map}
 use Rattle.pool_sharing.proofs.Eligible.{eligible-at}
 use Rattle.pool_sharing.proofs.HandOut.{Enough, Gets, Before, hand-out-length, hand-out-total, hand-out-gets, hand-out-order}
+use Rattle.pool_sharing.proofs.Totals.{total-cons}
 use Rattle.pool_sharing.specs.Sharing.{total, weight_of, eligible, floor_of, remainder_of, floors, remainders, left, pool_shares}
 
 -- the whole cents and the remainders make up the pool
 parts : (pool whole : ℕ) (l : List ℕ) → total (map (floor_of pool whole) l) * whole + total (map (remainder_of pool whole) l) ≡ pool * total l
 parts pool whole [] = omega arith
-parts pool whole (w ∷ l) = omega (arith, div-add-mod' (pool * w) whole, parts pool whole l)
+parts pool whole (w ∷ l) =
+    let floors_more = ap (λ (n : ℕ). n * whole) (total-cons (floor_of pool whole w) (map (floor_of pool whole) l)) in
+    let rest_more = total-cons (remainder_of pool whole w) (map (remainder_of pool whole) l) in
+    let whole_more = ap (λ (n : ℕ). pool * n) (total-cons w l) in
+    omega (arith, floors_more, rest_more, whole_more, div-add-mod' (pool * w) whole, parts pool whole l)
 
 -- a weight of 0 has neither whole cents nor a remainder
 floor-of-none : (pool whole : ℕ) → floor_of pool whole 0 ≡ 0

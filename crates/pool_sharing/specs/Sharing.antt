@@ -1,19 +1,17 @@
 -- How a pool is shared by weights, to the cent: rules 11.4 to 11.6.
-use Rattle.std.specs.Prelude.{cond, List, [], ◌∷◌, map, ℕ, zero, suc, ◌+◌, ◌-◌, ◌*◌, ◌/◌, ◌%◌, max, leb, ltb, get_or, set}
+use Rattle.std.specs.List.{zip}
+use Rattle.std.specs.Prelude.{sum, cond, List, [], ◌∷◌, map, ℕ, zero, suc, ◌+◌, ◌-◌, ◌*◌, ◌/◌, ◌%◌, max, leb, ltb, get_or, set}
 
 -- the sum of a column
 abbrev pub total : List ℕ → ℕ
-total [] = 0
-total (x ∷ xs) = x + total xs
+total xs = sum xs
 
 -- rule 11.4: a participant weighs its energy if it has a charge above 0 and else nothing; of one participant, and of all
 abbrev pub weight_of : ℕ → ℕ → ℕ
 weight_of charge energy = cond (ltb 0 charge) energy 0
 
 abbrev pub eligible : List ℕ → List ℕ → List ℕ
-eligible (c ∷ cs) (e ∷ es) = weight_of c e ∷ eligible cs es
-eligible [] es = []
-eligible (c ∷ cs) [] = []
+eligible charges energy = map (λ p. weight_of p.0 p.1) (zip charges energy)
 
 -- rule 11.5: the whole cents of a weight, and the remainder of that division; of one weight, and of all
 abbrev pub floor_of : ℕ → ℕ → ℕ → ℕ

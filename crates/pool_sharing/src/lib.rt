@@ -14,11 +14,7 @@ use market::units::Cents;
 pub fn column_total(column: [u32; Engine::BIDDERS]) -> u64
     ensures { result ≡ total column }
 {
-    let mut sum: u64 = 0;
-    for bidder in 0..Engine::BIDDERS {
-        sum += column[bidder] as u64;
-    }
-    sum
+    column.iter().map(|&number| u64::from(number)).sum()
 }
 
 fn weight_of(charge: u32, energy: u32) -> u32
@@ -34,61 +30,7 @@ pub fn eligible_energy(
 ) -> [u32; Engine::BIDDERS]
     ensures { result ≡ eligible charges energy }
 {
-    let mut weights: [u32; Engine::BIDDERS] = [0; Engine::BIDDERS];
-    for i in 0..Engine::BIDDERS {
-        let weight = weight_of(charges[i], energy[i]);
-        weights[i] = weight;
-    }
-    weights
-}
-
-fn floor_of(pool: Cents, whole: u64, weight: u32) -> Cents
-    requires pool_le_pool_limit { pool.0 ≤ pool_limit }
-    requires weight_le_column_limit { weight ≤ column_limit }
-    requires whole_nonzero { 0 < whole }
-    ensures { result ≡ cents (floor_of pool.0 whole weight) }
-{
-    Cents(pool.0 * (weight as u64) / whole)
-}
-
-// The numerator of the fraction of a cent that is dropped; `whole` is the denominator.
-fn remainder_of(pool: Cents, whole: u64, weight: u32) -> u64
-    requires pool_le_pool_limit { pool.0 ≤ pool_limit }
-    requires weight_le_column_limit { weight ≤ column_limit }
-    requires whole_nonzero { 0 < whole }
-    ensures { result ≡ remainder_of pool.0 whole weight }
-{
-    pool.0 * (weight as u64) % whole
-}
-
-// The share of each weight, rounded down to whole cents.
-fn floors_of(pool: Cents, whole: u64, weights: [u32; Engine::BIDDERS]) -> [Cents; Engine::BIDDERS]
-    requires pool_le_pool_limit { pool.0 ≤ pool_limit }
-    requires weights_bound { total weights ≤ column_limit }
-    requires whole_nonzero { 0 < whole }
-    ensures { in_cents result ≡ map (floor_of pool.0 whole) weights }
-{
-    let mut floors = [Cents(0); Engine::BIDDERS];
-    for i in 0..Engine::BIDDERS {
-        let floor = floor_of(pool, whole, weights[i]);
-        floors[i] = floor;
-    }
-    floors
-}
-
-// What the rounding drops of each weight's share.
-fn remainders_of(pool: Cents, whole: u64, weights: [u32; Engine::BIDDERS]) -> [u64; Engine::BIDDERS]
-    requires pool_le_pool_limit { pool.0 ≤ pool_limit }
-    requires weights_bound { total weights ≤ column_limit }
-    requires whole_nonzero { 0 < whole }
-    ensures { result ≡ map (remainder_of pool.0 whole) weights }
-{
-    let mut rems: [u64; Engine::BIDDERS] = [0; Engine::BIDDERS];
-    for i in 0..Engine::BIDDERS {
-        let rem = remainder_of(pool, whole, weights[i]);
-        rems[i] = rem;
-    }
-    rems
+    std::array::from_fn(|i| weight_of(charges[i], energy[i]))
 }
 
 // The sum of shares, which is within the limit of a pool.
@@ -96,12 +38,7 @@ fn shares_total(shares: [Cents; Engine::BIDDERS]) -> Cents
     requires { total (in_cents shares) ≤ pool_limit }
     ensures { result ≡ cents (total (in_cents shares)) }
 {
-    let mut sum: u64 = 0;
-    for i in 0..Engine::BIDDERS {
-        let share = shares[i];
-        sum += share.0;
-    }
-    Cents(sum)
+    Cents(shares.iter().map(|share| share.0).sum())
 }
 
 // The place of the first largest remainder.
@@ -109,8 +46,8 @@ fn largest_of(rems: [u64; Engine::BIDDERS]) -> usize
     ensures value { result ≡ largest rems }
     ensures upper_bound { result < bidder_limit }
 {
-    let mut best: usize = 0;
-    for i in 0..Engine::BIDDERS {
+    let mut best = 0;
+    for i in 1..Engine::BIDDERS {
         if rems[best] < rems[i] {
             best = i;
         }
@@ -131,8 +68,7 @@ fn hand_out(
     let mut shares = floors;
     for given in 0..left.0 {
         let place = largest_of(rems);
-        let share = shares[place];
-        shares[place] = Cents(share.0 + 1);
+        shares[place].0 += 1;
         rems[place] = 0;
     }
     shares
@@ -149,8 +85,8 @@ pub fn share_pool(pool: Cents, weights: [u32; Engine::BIDDERS]) -> [Cents; Engin
     if whole == 0 {
         return [Cents(0); Engine::BIDDERS];
     }
-    let floors = floors_of(pool, whole, weights);
-    let remainders = remainders_of(pool, whole, weights);
+    let floors = weights.map(|weight| Cents(pool.0 * u64::from(weight) / whole));
+    let remainders = weights.map(|weight| pool.0 * u64::from(weight) % whole);
     let given = shares_total(floors);
     hand_out(Cents(pool.0 - given.0), remainders, floors)
 }
