@@ -21,20 +21,14 @@ pub enum Hour {
 fn above_zero(price: ZonePrice) -> Cents
     ensures { result ≡ cents (above_zero price.0) }
 {
-    if price.0 < 0 {
-        return Cents(0);
-    }
-    Cents(book_account::magnitude(price.0))
+    Cents(book_account::magnitude(price.0.max(0)))
 }
 
 // The part of a price's negative above 0.
 fn below_zero(price: ZonePrice) -> Cents
     ensures { result ≡ cents (above_zero (neg_ℤ price.0)) }
 {
-    if price.0 < 0 {
-        return Cents(book_account::magnitude(price.0));
-    }
-    Cents(0)
+    Cents(book_account::magnitude(price.0.min(0)))
 }
 
 // What one MW earns in the hour on a path that leads in a given direction.
@@ -64,10 +58,7 @@ fn rate_at(price: ZonePrice, direction: Direction) -> Cents
 fn price_at(prices: &[i64], zone: usize) -> ZonePrice
     ensures { result ≡ zone_price (get_or prices.now zone (pos 0)) }
 {
-    if zone < prices.len() {
-        return ZonePrice(prices[zone]);
-    }
-    ZonePrice(0)
+    ZonePrice(prices.get(zone).copied().unwrap_or(0))
 }
 
 // The hour as an entry on a path sees it.
@@ -77,14 +68,7 @@ pub fn hour_at(failed: bool, prices: &[i64], path: Path) -> Hour
     if failed {
         return Hour::Failed;
     }
-    let zone = path.zone as usize;
-    Hour::Priced(price_at(prices, zone))
-}
-
-fn is_sound(price: ZonePrice) -> bool
-    ensures { result ≡ sound_zone_price price.0 }
-{
-    (-Engine::ZONE_PRICE_LIMIT <= price.0) & (price.0 <= Engine::ZONE_PRICE_LIMIT)
+    Hour::Priced(price_at(prices, path.zone as usize))
 }
 
 // Whether each zone price is within the limits.
@@ -92,11 +76,6 @@ pub fn all_sound(prices: &[i64]) -> bool
     requires { zones ≤ length prices.now }
     ensures { result ≡ every sound_zone_price (take zones prices.now) }
 {
-    for i in 0..Engine::ZONES {
-        let price = price_at(prices, i);
-        if !is_sound(price) {
-            return false;
-        }
-    }
-    true
+    prices[..Engine::ZONES].iter().all(|&price| -Engine::ZONE_PRICE_LIMIT <= price
+        && price <= Engine::ZONE_PRICE_LIMIT)
 }

@@ -13,8 +13,5 @@ pub fn write_amounts(amounts: [Cents; Engine::BIDDERS], lent: &mut [u64])
     requires { bidder_limit ≤ length lent.old }
     ensures { lent.new ≡ with_front (in_cents amounts) lent.old }
 {
-    for bidder in 0..Engine::BIDDERS {
-        let amount = amounts[bidder];
-        lent[bidder] = amount.0;
-    }
+    lent[..Engine::BIDDERS].copy_from_slice(&amounts.map(|amount| amount.0));
 }

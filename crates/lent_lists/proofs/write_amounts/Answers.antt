@@ -1,34 +1,22 @@
-use native.Mathlib.Omega.{arith}
+-- The array has the number of each amount (mapped), which the copy puts over as many words at the front.
 use borrow.Author.Rules.{rules}
-use mathlib.Core.Path.{refl, sym, ◌∙◌, ap₂}
-use mathlib.Core.List.{List}
+use mathlib.Core.Path.{sym, ◌∙◌, ap₂}
+use mathlib.Core.List.{List, ◌++◌}
 use Prim.Native.Nat.{ℕ}
-use lib.ListN.{set}
-use Rattle.market.proofs.KindLaws.{cents-at, numbers-long}
-use Rattle.market.specs.Books.{in_cents}
+use lib.ListN.{drop}
+use lib.Seq.{length-take-le}
+use Rattle.market.proofs.KindLaws.{numbers-long}
+use Rattle.market.specs.Books.{cents}
 use Rattle.market.specs.Limits.{bidder_limit}
-use Rattle.lent_lists.proofs.Written.{write-next, all-written}
+use Rattle.market.specs.declared.units.Cents.{Cents}
+use Rattle.pool_sharing.proofs.Arrays.{mapped}
 use Rattle.lent_lists.proofs.write_amounts.Goals as goal
 
-pub loop-bidder-init : goal.loop-bidder-init
-loop-bidder-init c = (search rules, search rules, refl)
-
-pub loop-bidder-preserved : goal.loop-bidder-preserved
-loop-bidder-preserved c =
-    let a = c.args in
-    let at = c.loop-bidder in (
-      search rules,
-      search rules,
-      ap₂ (λ (l : List ℕ) (n : ℕ). set l at.bidder n) at.invariant.2 (sym (cents-at a.amounts at.bidder))
-          ∙ write-next (in_cents a.amounts) a.lent.now at.bidder (omega (arith, numbers-long a.amounts bidder_limit (search rules), c.loop-bidder-test.true)) (search rules),
-    )
-
-pub shape_of-lent : goal.shape_of-lent
-shape_of-lent c = c.loop-bidder.invariant.1
+pub copy_from_slice-requires : goal.copy_from_slice-requires
+copy_from_slice-requires c = length-take-le bidder_limit c.args.lent.now c.requires ∙ sym c.map.ensures.items.long
 
 pub returns : goal.returns
 returns c =
     let a = c.args in
-    let at = c.loop-bidder in
-    at.invariant.2
-    ∙ all-written (in_cents a.amounts) a.lent.now at.bidder (omega (arith, numbers-long a.amounts bidder_limit (search rules), at.invariant.0, c.loop-bidder-test.false))
+    let amounts = mapped _ _ (λ (x : Cents). x.0) (λ x y q k. (search rules, search rules)) a.amounts c.map.result bidder_limit (search rules) (cents 0) c.map.ensures.items in
+    ap₂ (λ (l : List ℕ) (n : ℕ). l ++ drop n a.lent.now) (c.copy_from_slice.ensures.after ∙ amounts) (sym (numbers-long a.amounts bidder_limit (search rules)))
