@@ -28,10 +28,8 @@ fn column_of(words: &[u32]) -> [u32; Engine::BIDDERS]
     requires { bidder_limit ≤ length words.now }
     ensures { result ≡ take bidder_limit words.now }
 {
-    let mut column: [u32; Engine::BIDDERS] = [0; Engine::BIDDERS];
-    for i in 0..Engine::BIDDERS {
-        column[i] = words[i];
-    }
+    let mut column = [0; Engine::BIDDERS];
+    column.copy_from_slice(&words[..Engine::BIDDERS]);
     column
 }
 

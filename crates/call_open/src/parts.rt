@@ -10,12 +10,7 @@ use market::engine::Engine;
 pub fn no_values(bidders: [Bidder; Engine::BIDDERS]) -> bool
     ensures { result ≡ every no_value bidders }
 {
-    for i in 0..Engine::BIDDERS {
-        if !book_parts::no_value(bidders[i]) {
-            return false;
-        }
-    }
-    true
+    bidders.iter().all(|bidder| book_parts::no_value(*bidder))
 }
 
 // Whether each of the first `count` quantities is within the limit.
@@ -23,10 +18,7 @@ pub fn all_sound(quantities: &[u32], count: usize) -> bool
     requires { count ≤ length quantities.now }
     ensures { result ≡ every sound_quantity (take count quantities.now) }
 {
-    for i in 0..count {
-        if quantities[i] > Engine::QUANTITY_LIMIT {
-            return false;
-        }
-    }
-    true
+    quantities[..count]
+        .iter()
+        .all(|&quantity| quantity <= Engine::QUANTITY_LIMIT)
 }

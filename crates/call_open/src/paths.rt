@@ -28,13 +28,10 @@ fn quantities_at(quantities: &[u32], i: usize) -> Quantities
 fn opened_path(path: Path, kind: Kind, of: Quantities, out: Megawatts) -> Path
     ensures { result ≡ offering path (auction_offer kind of out.0) }
 {
-    let direction = path.direction;
-    let offer = call_open_offers::offer(kind, of, out);
     Path {
-        direction,
-        zone: path.zone,
-        offer,
+        offer: call_open_offers::offer(kind, of, out),
         sold: Megawatts(0),
+        ..path
     }
 }
 

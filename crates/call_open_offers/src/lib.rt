@@ -18,33 +18,18 @@ pub struct Quantities {
     pub second: Megawatts,
 }
 
-fn least(a: Megawatts, b: Megawatts) -> Megawatts
-    ensures { result ≡ megawatts (min a.0 b.0) }
-{
-    if a.0 <= b.0 {
-        return a;
-    }
-    b
-}
-
 // What is left of a quantity when `taken` is taken from it; 0 where that is more than there is.
 fn left(whole: Megawatts, taken: Megawatts) -> Megawatts
     ensures { result ≡ megawatts (whole.0 - taken.0) }
 {
-    if whole.0 <= taken.0 {
-        return Megawatts(0);
-    }
-    Megawatts(whole.0 - taken.0)
+    Megawatts(whole.0.saturating_sub(taken.0))
 }
 
 // The least of FUL, A and B.
 fn capability_of(of: Quantities) -> Megawatts
     ensures { result ≡ megawatts (capability of) }
 {
-    let upper = of.upper;
-    let first = of.first;
-    let second = of.second;
-    least(upper, least(first, second))
+    of.upper.min(of.first).min(of.second)
 }
 
 fn short_offer(of: Quantities, out: Megawatts) -> Megawatts
@@ -56,15 +41,11 @@ fn short_offer(of: Quantities, out: Megawatts) -> Megawatts
 fn long_offer(of: Quantities, out: Megawatts) -> Megawatts
     ensures { result ≡ megawatts (long_offer of out.0) }
 {
-    let base = of.base;
-    let upper = of.upper;
-    let base_left = left(base, out);
-    let upper_left = left(upper, out);
-    let quarter = Megawatts(base.0 / Engine::QUARTERS);
-    least(
-        quarter,
-        least(capability_of(of), least(base_left, upper_left)),
-    )
+    let quarter = Megawatts(of.base.0 / Engine::QUARTERS);
+    quarter
+        .min(capability_of(of))
+        .min(left(of.base, out))
+        .min(left(of.upper, out))
 }
 
 // The offer of a path on which `out` is outstanding.
@@ -80,12 +61,10 @@ pub fn offer(kind: Kind, of: Quantities, out: Megawatts) -> Megawatts
 fn long_offered(round: u32, path: Path) -> Megawatts
     ensures { result ≡ megawatts (long_offered round path) }
 {
-    let offer = path.offer;
-    let sold = path.sold;
     if round == 1 {
-        return Megawatts(offer.0 / Engine::QUARTERS);
+        return Megawatts(path.offer.0 / Engine::QUARTERS);
     }
-    left(offer, sold)
+    left(path.offer, path.sold)
 }
 
 // What a round offers of a path.
