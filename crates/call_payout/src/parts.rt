@@ -31,13 +31,8 @@ fn rates_of(
 {
     let mut rates = [Cents(0); Engine::PATHS];
     for i in 0..count {
-        let path = paths[i];
-        let direction = path.direction;
-        let rate = call_payout_hour::rate_of(
-            call_payout_hour::hour_at(failed, prices, path),
-            direction,
-        );
-        rates[i] = rate;
+        let hour = call_payout_hour::hour_at(failed, prices, paths[i]);
+        rates[i] = call_payout_hour::rate_of(hour, paths[i].direction);
     }
     rates
 }
@@ -46,10 +41,7 @@ fn rates_of(
 fn pays_on(day: Day, entry: Entry) -> bool
     ensures { result ≡ pays_on day entry }
 {
-    let period = entry.period;
-    let first = period.first;
-    let last = period.last;
-    (entry.state == Engine::ISSUED) & (first.0 <= day.0) & (day.0 <= last.0)
+    entry.state == Engine::ISSUED && entry.period.first <= day && day <= entry.period.last
 }
 
 // What an entry earns in an hour, by what one MW earns on its path.
@@ -62,8 +54,7 @@ fn earned_by(day: Day, rate: Cents, entry: Entry) -> Cents
     if !pays_on(day, entry) {
         return Cents(0);
     }
-    let quantity = entry.quantity;
-    Cents((quantity.0 as u64) * rate.0)
+    Cents(u64::from(entry.quantity.0) * rate.0)
 }
 
 // The amount of each bidder for the hour. What one MW earns on each path is computed once.
@@ -74,18 +65,13 @@ pub fn amounts_of(book: Book, words: &[u32], day: Day, failed: bool, prices: &[i
     ensures total_value { result.total.0 ≡ total (amounts_of book day failed prices.now (counted_entries book words.now)) }
     ensures total_le_account_limit { result.total.0 ≤ account_limit }
 {
-    let paths = book.paths;
-    let rates = rates_of(paths, book.path_count, failed, prices);
+    let rates = rates_of(book.paths, book.path_count, failed, prices);
     let mut amounts = [Cents(0); Engine::BIDDERS];
     let mut total: u64 = 0;
-    let count = book.entries;
-    for i in 0..count {
+    for i in 0..book.entries {
         let entry = register::read(words, i);
-        let path = entry.path as usize;
-        let earned = earned_by(day, rates[path], entry);
-        let bidder = entry.bidder as usize;
-        let amount = amounts[bidder];
-        amounts[bidder] = Cents(amount.0 + earned.0);
+        let earned = earned_by(day, rates[entry.path as usize], entry);
+        amounts[entry.bidder as usize].0 += earned.0;
         total += earned.0;
     }
     Sums {

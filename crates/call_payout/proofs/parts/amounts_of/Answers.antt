@@ -1,5 +1,5 @@
 use borrow.Author.Rules.{rules}
-use mathlib.Core.Path.{◌≡◌, refl, sym, ◌∙◌, ap, ap₂, subst}
+use mathlib.Core.Path.{◌≡◌, sym, ◌∙◌, ap, ap₂, subst}
 use mathlib.Core.Bool.{cond}
 use mathlib.Core.List.{List}
 use Prim.Native.Nat.{ℕ, ◌+◌, ◌*◌, ◌≤◌, ◌<◌}
@@ -32,9 +32,6 @@ rates_of-rates-requires c =
       prices_value = c.requires.prices_value;
       by_index = λ i below. zone-within c.args.book i c.requires.lent_register.sound below;
     }
-
-pub loop-i-init : goal.loop-i-init
-loop-i-init c = (search rules, (refl, (refl, (refl, search rules))))
 
 pub read-entry-requires : goal.read-entry-requires
 read-entry-requires c = omega (arith, c.requires.lent_register.room, c.loop-i-test.true)
@@ -75,7 +72,7 @@ module _ (p : After-earned_by-earned) where
   sum-within : p.loop-i.total + p.earned_by-earned.result.0 ≤ account_limit
   sum-within =
       let at = p.loop-i in
-      sum_fits at.i p.args.book.entries at.total p.earned_by-earned.result.0 p.loop-i-test.true p.requires.lent_register.count at.invariant.1.1.1.1
+      sum_fits at.i p.args.book.entries at.total p.earned_by-earned.result.0 p.loop-i-test.true p.requires.lent_register.count at.invariant.most
       p.earned_by-earned.ensures.result_bound
 
 pub overflow_add-amounts : goal.overflow_add-amounts
@@ -83,7 +80,7 @@ overflow_add-amounts c =
     let at = c.loop-i in
     let bidder = c.read-entry.result.bidder in
     let sum = sum-within (goal.at.overflow_add-amounts c).After-earned_by-earned in
-    let fits = amount-fits (in_cents at.amounts) bidder at.total c.earned_by-earned.result.0 at.invariant.1.1.1.0 sum in
+    let fits = amount-fits (in_cents at.amounts) bidder at.total c.earned_by-earned.result.0 at.invariant.sum sum in
     record { fits = omega (arith, fits, cents-at at.amounts bidder) }
 
 pub overflow_step-i : goal.overflow_step-i
@@ -102,25 +99,19 @@ loop-i-preserved c =
     let more = c.earned_by-earned.result.0 in
     let numbers = in_cents at.amounts in
     let stored = cents-added at.amounts e.bidder more in
-    let added = credit-total numbers e.bidder more (omega (arith, bidder-below r, numbers-long at.amounts bidder_limit at.invariant.1.0)) in
+    let added = credit-total numbers e.bidder more (omega (arith, bidder-below r, numbers-long at.amounts bidder_limit at.invariant.long)) in
     let amounts =
     stored
-    ∙ ap₂ (λ (l : List ℕ) (x : ℕ). credit l e.bidder x) at.invariant.1.1.0 (earned-is p)
+    ∙ ap₂ (λ (l : List ℕ) (x : ℕ). credit l e.bidder x) at.invariant.amounts (earned-is p)
     ∙ ap (λ (x : Entry). credit before x.bidder (earns p (entry_at w at.i))) c.read-entry.ensures
     ∙ sym (credited-more (earns p) zeros w at.i)
-    in (
-      search rules,
-      (
-        search rules,
-        (
-          amounts,
-          (
-            omega (arith, at.invariant.1.1.1.0, added, ap total stored),
-            omega (arith, at.invariant.1.1.1.1, c.earned_by-earned.ensures.result_bound),
-          ),
-        ),
-      ),
-    )
+    in
+    record {
+      long = search rules;
+      amounts = amounts;
+      sum = omega (arith, at.invariant.sum, added, ap total stored);
+      most = omega (arith, at.invariant.most, c.earned_by-earned.ensures.result_bound);
+    }
 
 pub returns : goal.returns
 unfolding amounts_of
@@ -132,24 +123,24 @@ returns c =
     let all : at.i ≡ b.entries = omega arith in
     let zeros : List ℕ = replicate bidder_limit 0 in
     let amounts =
-    at.invariant.1.1.0
+    at.invariant.amounts
     ∙ ap (λ (n : ℕ). credited (earned_by a.day (in_cents rates.result)) zeros (entries_of a.words.now n)) all
     ∙ credits-same b a.words.now c.requires.lent_register a.failed a.prices.now (in_cents rates.result) rates.ensures a.day zeros
     in
     record {
       amounts_value = amounts;
-      total_value = at.invariant.1.1.1.0 ∙ ap total amounts;
-      total_le_account_limit = omega (arith, at.invariant.1.1.1.1, at.invariant.0, c.requires.lent_register.count);
+      total_value = at.invariant.sum ∙ ap total amounts;
+      total_le_account_limit = omega (arith, at.invariant.most, c.requires.lent_register.count);
     }
 
-pub overflow_cast-path : goal.overflow_cast-path
-overflow_cast-path c = record { fits = omega (arith, path-below (goal.at.overflow_cast-path c).After-read-entry) }
+pub overflow_cast-entry : goal.overflow_cast-entry
+overflow_cast-entry c = record { fits = omega (arith, path-below (goal.at.overflow_cast-entry c).After-read-entry) }
 
-pub offset_bounds-rates-path : goal.offset_bounds-rates-path
-offset_bounds-rates-path c = record { fits = omega (arith, path-below (goal.at.offset_bounds-rates-path c).After-read-entry) }
+pub offset_bounds-rates-entry : goal.offset_bounds-rates-entry
+offset_bounds-rates-entry c = record { fits = omega (arith, path-below (goal.at.offset_bounds-rates-entry c).After-read-entry) }
 
-pub bounds-rates-path : goal.bounds-rates-path
-bounds-rates-path c = path-below (goal.at.bounds-rates-path c).After-read-entry
+pub bounds-rates-entry : goal.bounds-rates-entry
+bounds-rates-entry c = path-below (goal.at.bounds-rates-entry c).After-read-entry
 
 pub earned_by-earned-requires : goal.earned_by-earned-requires
 earned_by-earned-requires c =
@@ -159,17 +150,14 @@ earned_by-earned-requires c =
       rate_le_zone_price_limit = rate-within at.After-read-entry;
     }
 
-pub offset_bounds-amounts-bidder : goal.offset_bounds-amounts-bidder
-offset_bounds-amounts-bidder c = record { fits = omega (arith, bidder-below (goal.at.offset_bounds-amounts-bidder c).After-read-entry) }
+pub offset_bounds-amounts-entry : goal.offset_bounds-amounts-entry
+offset_bounds-amounts-entry c = record { fits = omega (arith, bidder-below (goal.at.offset_bounds-amounts-entry c).After-read-entry) }
 
-pub bounds-amounts-bidder : goal.bounds-amounts-bidder
-bounds-amounts-bidder c = bidder-below (goal.at.bounds-amounts-bidder c).After-read-entry
+pub bounds-amounts-entry : goal.bounds-amounts-entry
+bounds-amounts-entry c = bidder-below (goal.at.bounds-amounts-entry c).After-read-entry
 
-pub offset_bounds-amounts-bidder-in-loop-i : goal.offset_bounds-amounts-bidder-in-loop-i
-offset_bounds-amounts-bidder-in-loop-i c = record { fits = omega (arith, bidder-below (goal.at.offset_bounds-amounts-bidder-in-loop-i c).After-read-entry) }
-
-pub bounds-amounts-bidder-in-loop-i : goal.bounds-amounts-bidder-in-loop-i
-bounds-amounts-bidder-in-loop-i c = bidder-below (goal.at.bounds-amounts-bidder-in-loop-i c).After-read-entry
+pub bounds-amounts-entry-in-loop-i : goal.bounds-amounts-entry-in-loop-i
+bounds-amounts-entry-in-loop-i c = bidder-below (goal.at.bounds-amounts-entry-in-loop-i c).After-read-entry
 
 pub overflow_add-total : goal.overflow_add-total
 overflow_add-total c = record { fits = omega (arith, sum-within (goal.at.overflow_add-total c).After-earned_by-earned) }

@@ -13,8 +13,9 @@ use Rattle.call_payout.specs.Payout.{credited}
 use Rattle.call_payout.proofs.parts.amounts_of.Given as goal
 
 abbrev pub invariant-loop-i : goal.invariant-loop-i
-invariant-loop-i l =
-    (l.i ≤ l.count)
-    × ((length l.amounts ≡ bidder_limit)
-    × ((in_cents l.amounts ≡ credited (earned_by l.day (in_cents l.rates)) (replicate bidder_limit 0) (entries_of l.words l.i))
-    × ((l.total ≡ total (in_cents l.amounts)) × (l.total ≤ l.i * (quantity_limit * zone_price_limit)))))
+invariant-loop-i l = record {
+  long : length l.amounts ≡ bidder_limit;
+  amounts : in_cents l.amounts ≡ credited (earned_by l.day (in_cents l.rates)) (replicate bidder_limit 0) (entries_of l.words l.i);
+  sum : l.total ≡ total (in_cents l.amounts);
+  most : l.total ≤ l.i * (quantity_limit * zone_price_limit);
+}

@@ -16,14 +16,13 @@ returns-then-not-pays_on c =
 pub overflow_mul-result : goal.overflow_mul-result
 overflow_mul-result c =
     let pre = c.requires in
-    record { fits = omega (arith, product-within pre.quantity_le_quantity_limit pre.rate_le_zone_price_limit) }
+    record { fits = rw c.from.ensures (omega (arith, product-within pre.quantity_le_quantity_limit pre.rate_le_zone_price_limit)) }
 
 pub returns : goal.returns
 returns c =
-    let p = c.before.before.before in
-    let pre = p.requires in
-    let pays = sym p.pays_on.ensures ∙ p.if-not-pays_on.false in
+    let pre = c.requires in
+    let pays = sym c.pays_on.ensures ∙ c.if-not-pays_on.false in
     record {
-      value = rw pays;
-      result_bound = product-within pre.quantity_le_quantity_limit pre.rate_le_zone_price_limit;
+      value = rw (pays, c.from.ensures);
+      result_bound = rw c.from.ensures (product-within pre.quantity_le_quantity_limit pre.rate_le_zone_price_limit);
     }

@@ -18,13 +18,12 @@ use Rattle.call_payout.proofs.parts.rates_of.Goals as goal
 pub loop-i-init : goal.loop-i-init
 loop-i-init c = (search rules, refl)
 
-pub rate_of-rate-requires : goal.rate_of-rate-requires
-rate_of-rate-requires c =
-    let s = c.before.before.before.before in
-    let a = s.args in
+pub rate_of-requires : goal.rate_of-requires
+rate_of-requires c =
+    let a = c.args in
     let at = c.loop-i in
-    rw c.hour_at.ensures
-    (hour-sound a.failed a.prices.now (get_or a.paths at.i no_path) s.requires.prices_value (s.requires.by_index at.i c.loop-i-test.true))
+    rw c.hour_at-hour.ensures
+    (hour-sound a.failed a.prices.now (get_or a.paths at.i no_path) c.requires.prices_value (c.requires.by_index at.i c.loop-i-test.true))
 
 pub loop-i-preserved : goal.loop-i-preserved
 loop-i-preserved c =
@@ -32,9 +31,9 @@ loop-i-preserved c =
     let at = c.loop-i in
     let f = rate_on a.failed a.prices.now in
     let path = get_or a.paths at.i no_path in
-    let made = ap (λ (x : Cents). x.0) c.rate_of-rate.ensures.value ∙ ap (λ (h : Hour). rate h path.direction) c.hour_at.ensures in (
+    let made = ap (λ (x : Cents). x.0) c.rate_of.ensures.value ∙ ap (λ (h : Hour). rate h path.direction) c.hour_at-hour.ensures in (
       search rules,
-      map-set (λ (x : Cents). x.0) at.rates at.i c.rate_of-rate.result
+      map-set (λ (x : Cents). x.0) at.rates at.i c.rate_of.result
           ∙ ap₂ (λ (l : List ℕ) (x : ℕ). set l at.i x) at.invariant.1 made
           ∙ fill-next f a.paths path_limit 0 at.i no_path (search rules) (search rules),
     )
