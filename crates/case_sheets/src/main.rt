@@ -2,44 +2,18 @@
 // Each is a case with the word `sheet`: first those that are malformed, then those that are well formed.
 #![tactic(auto)]
 
-ghost use Rattle.std.specs.Prelude.{◌≤◌, IfOk, length};
-
-use case_tools::report;
+use case_tools::cases;
 use std::io;
 
 const INPUT_BYTES: usize = 524_288;
 
-// Prints the name of the first sheet of these bytes, and its output; returns the place after it, 0 where there is no sheet.
-fn show_first(rt: &impl Print, bytes: &[u8]) -> io::Result<usize>
-    ensures { IfOk result (λ used. used ≤ length bytes.now) }
-{
-    let case = case_files::first_case(bytes, b"sheet ");
-    let name = case.name;
-    let line = case.line;
-    let from = case.from;
-    let to = case.to;
-    if case.behind == 0 {
-        return Ok(0);
-    }
-    report::title(rt, &bytes[name..line])?;
-    sheet_program::answer(rt, &bytes[from..to])?;
-    Ok(case.behind)
-}
-
-fn show_all(rt: &impl Print, bytes: &[u8]) -> io::Result<()> {
-    let mut at = 0;
-    while at < bytes.len() {
-        let used = show_first(rt, &bytes[at..])?;
-        if used == 0 {
-            return report::text(rt, b"no sheet\n");
-        }
-        at += used;
-    }
-    Ok(())
-}
-
 fn main(rt: HostRuntime) -> io::Result<()> {
     let mut input = [0u8; INPUT_BYTES];
     let count = program_input::read_full(&mut rt.reader(), &mut input)?;
-    show_all(&rt, &input[..count])
+    cases::run_all(
+        &rt,
+        &input[..count],
+        b"sheet",
+        |sheet| sheet_program::answer(&rt, sheet),
+    )
 }

@@ -3,6 +3,7 @@
 #![tactic(auto)]
 
 pub mod calls;
+pub mod cases;
 pub mod report;
 pub mod same;
 pub mod show;

@@ -1,0 +1,9 @@
+-- What is left is a part of the text, and gets shorter with each line.
+use Rattle.std.proofs.Common.{length, ◌≤◌}
+use Rattle.journal_program.proofs.Run.run_lines.Given as goal
+
+abbrev pub invariant-loop-end : goal.invariant-loop-end
+invariant-loop-end g l = length l.rest ≤ length l.text
+
+abbrev pub decreases-loop-end : goal.decreases-loop-end
+decreases-loop-end g l = length l.rest
