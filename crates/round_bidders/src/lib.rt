@@ -1,7 +1,7 @@
 // The bidders after a round, billed with its charges.
 #![tactic(auto)]
 
-ghost use Rattle.std.specs.Prelude.{◌≡◌, true, min};
+ghost use Rattle.std.specs.Prelude.{◌≡◌, true};
 ghost use Rattle.market.specs.Sound.{BidderBounds, AllWithin};
 ghost use Rattle.market.specs.Books.{every, in_cents};
 ghost use Rattle.round_charges.specs.Charges.{within_charges};
@@ -11,35 +11,21 @@ use market::book::Bidder;
 use market::engine::Engine;
 use market::units::Cents;
 
-fn least(a: u64, b: u64) -> u64
-    ensures { result ≡ min a b }
-{
-    if a <= b {
-        return a;
-    }
-    b
-}
-
 // A bidder billed with its charges of the round.
 fn bill(bidder: Bidder, charges: Cents) -> Bidder
     requires bidder_bounds { BidderBounds bidder }
     requires charges_value { within_charges charges.0 ≡ true }
     ensures { result ≡ billed bidder charges.0 }
 {
-    let cash = bidder.cash;
-    let applied = bidder.applied;
-    let letter = bidder.letter;
-    let owed = bidder.owed;
-    let due = owed.0 + charges.0;
-    let moved = least(cash.0, due);
+    let due = bidder.owed.0 + charges.0;
+    let moved = bidder.cash.0.min(due);
     let left = due - moved;
     Bidder {
-        cash: Cents(cash.0 - moved),
-        applied: Cents(applied.0 + moved),
-        letter,
-        hold: Cents(least(letter.0, left / 10)),
+        cash: Cents(bidder.cash.0 - moved),
+        applied: Cents(bidder.applied.0 + moved),
+        hold: Cents(bidder.letter.0.min(left / 10)),
         owed: Cents(left),
-        step: bidder.step,
+        ..bidder
     }
 }
 
@@ -53,9 +39,8 @@ pub fn bill_all(
     ensures { result ≡ billed_all bidders (in_cents charges) }
 {
     let mut next = bidders;
-    for i in 0..Engine::BIDDERS {
-        let bidder = bill(bidders[i], charges[i]);
-        next[i] = bidder;
+    for (i, bidder) in bidders.iter().enumerate() {
+        next[i] = bill(*bidder, charges[i]);
     }
     next
 }

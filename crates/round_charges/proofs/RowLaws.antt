@@ -3,20 +3,15 @@ use mathlib.Core.Path.{◌≡◌, refl, sym, ◌∙◌, ap, ap₂}
 use mathlib.Core.Bool.{true}
 use mathlib.Core.List.{List, [], ◌∷◌, ◌++◌, append_assoc, append-nil}
 use Prim.Native.Nat.{ℕ, ◌+◌, ◌*◌, ◌≤◌, ◌<◌}
-use native.Mathlib.Numerals.{add-one, add-two, add-three}
 use native.Mathlib.Omega.{arith}
-use lib.ListN.{length, get_or, set, take, drop, length-append, length-drop}
-use lib.Seq.{sets-eq, take-append_seam, drop-append-add, drop-drop}
+use lib.ListN.{length, get_or, take, drop, length-append, length-drop}
+use lib.Seq.{take-append_seam, drop-append-add, drop-drop}
 use Rattle.market.specs.Limits.{bid_answer_size, path_limit}
 use Rattle.round_bids.proofs.Walk.{Walk, left, walk_start, left-start, walk-on, walk-done, left-splits}
 use Rattle.round_bids.specs.BidRefusals.{sound_list}
 use Rattle.round_bids.specs.Bids.{Bid, bid_at, bid_end, bids_of, bid_value}
 use Rattle.round_charges.specs.Charges.{charge_at, bid_row, bid_rows_from, bid_rows}
 use Rattle.market.specs.Books.{with_front}
-
--- four stores next to each other
-pub four-stores : (l : List ℕ) (at a b c d : ℕ) → at + 4 ≤ length l → set (set (set (set l at a) (at + 1) b) (at + 2) c) (at + 3) d ≡ take at l ++ (a ∷ b ∷ c ∷ d ∷ []) ++ drop (at + 4) l
-four-stores l at a b c d h = rw (add-one at, add-two at, add-three at) (sets-eq (a ∷ b ∷ c ∷ d ∷ []) l at h)
 
 -- one row more after rows that are written over a list
 pub lay-next : (before rows row : List ℕ) → take (length rows) (with_front rows before) ++ row ++ drop (length rows + length row) (with_front rows before) ≡ with_front (rows ++ row) before

@@ -19,7 +19,7 @@ fn charge(price: Cents, won: Megawatts) -> Cents
     ensures value { result ≡ cents (price.0 * won.0) }
     ensures result_le_lamination_value_limit { result.0 ≤ lamination_value_limit }
 {
-    Cents(price.0 * (won.0 as u64))
+    Cents(price.0 * u64::from(won.0))
 }
 
 // The charges of each bidder.
@@ -35,34 +35,23 @@ pub fn charges_of(
     ensures result_value_2 { every within_charges (in_cents result) ≡ true }
 {
     let mut charges = [Cents(0); Engine::BIDDERS];
-    let mut k: usize = 0;
-    let mut at: usize = 0;
-    while at < words.len() {
+    for (k, at) in round_bids::places(words).enumerate() {
         let header = round_bids::header_at(words, at);
         let path = header.path as usize;
         let bidder = header.bidder as usize;
         let bill = charge(prices[path], won[k]);
-        let before = charges[bidder];
-        let sum = before.0 + bill.0;
-        charges[bidder] = Cents(sum);
-        k += 1;
-        at = round_bids::bid_end(words, at);
+        charges[bidder].0 += bill.0;
     }
     charges
 }
 
-// The four words of a bid, put at its place in the list of answers.
-fn put_row(answers: &mut [u64], k: usize, mark: u32, value: Cents, won: Megawatts, charge: Cents)
-    requires { (k + 1) * bid_answer_size ≤ length answers.old }
-    ensures { answers.new
-        ≡ take (k * bid_answer_size) answers.old ++ (mark ∷ value.0 ∷ won.0 ∷ charge.0 ∷ [])
-        ++ drop (k * bid_answer_size + bid_answer_size) answers.old }
+// A row of `N` words, put at place `k` of a list of such rows.
+pub fn put_row<const N: usize>(answers: &mut [u64], k: usize, row: [u64; N])
+    requires { (k + 1) * N ≤ length answers.old }
+    ensures { answers.new ≡ take (k * N) answers.old ++ row.entry ++ drop (k * N + N) answers.old }
 {
-    let at = k * Engine::BID_ANSWER_SIZE;
-    answers[at] = mark as u64;
-    answers[at + 1] = value.0;
-    answers[at + 2] = won.0 as u64;
-    answers[at + 3] = charge.0;
+    let at = k * N;
+    answers[at..at + N].copy_from_slice(&row);
 }
 
 // The answers of the bids, at the front of the list that is lent for them.
@@ -81,16 +70,12 @@ pub fn write_bids(
     ensures { answers.new
         ≡ with_front (bid_rows marks.now (in_megawatts won) (in_cents prices) (bids_of words.now)) answers.old }
 {
-    let mut k: usize = 0;
-    let mut at: usize = 0;
-    while at < words.len() {
+    for (k, at) in round_bids::places(words).enumerate() {
         let header = round_bids::header_at(words, at);
         let value = round_bids::bid_value(words, at);
         let path = header.path as usize;
-        let taken = won[k];
-        let bill = charge(prices[path], taken);
-        put_row(answers, k, marks[k], value, taken, bill);
-        k += 1;
-        at = round_bids::bid_end(words, at);
+        let bill = charge(prices[path], won[k]);
+        let row = [u64::from(marks[k]), value.0, u64::from(won[k].0), bill.0];
+        put_row(answers, k, row);
     }
 }

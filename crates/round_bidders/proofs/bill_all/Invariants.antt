@@ -8,4 +8,4 @@ use Rattle.round_bidders.specs.Bidders.{billed_to}
 use Rattle.round_bidders.proofs.bill_all.Given as goal
 
 abbrev pub invariant-loop-i : goal.invariant-loop-i
-invariant-loop-i l = (l.i ≤ bidder_limit) × (l.next ≡ billed_to l.bidders (in_cents l.charges) l.i)
+invariant-loop-i l = l.next ≡ billed_to l.fn.bidders (in_cents l.charges) l.i
