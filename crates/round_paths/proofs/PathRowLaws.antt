@@ -1,19 +1,13 @@
 -- Laws about rows written one by one.
 use mathlib.Core.Path.{◌≡◌, refl, sym, ◌∙◌, ap}
-use mathlib.Core.List.{List, [], ◌∷◌, ◌++◌}
-use Prim.Native.Nat.{ℕ, zero, suc, ◌+◌, ◌*◌, ◌≤◌}
-use native.Mathlib.Numerals.{add-one, add-two}
+use mathlib.Core.List.{List, ◌++◌}
+use Prim.Native.Nat.{ℕ, zero, suc, ◌+◌, ◌*◌}
 use native.Mathlib.Omega.{arith}
-use lib.ListN.{length, set, take, drop, length-append}
-use lib.Seq.{sets-eq}
+use lib.ListN.{length, take, drop, length-append}
 use Rattle.market.specs.Limits.{path_answer_size}
 use Rattle.round_charges.proofs.RowLaws.{lay-next}
 use Rattle.market.specs.Books.{with_front}
 use Rattle.round_paths.specs.PathRows.{path_row, path_rows}
-
--- three stores next to each other
-pub three-stores : (l : List ℕ) (at a b c : ℕ) → at + 3 ≤ length l → set (set (set l at a) (at + 1) b) (at + 2) c ≡ take at l ++ (a ∷ b ∷ c ∷ []) ++ drop (at + 3) l
-three-stores l at a b c h = rw (add-one at, add-two at) (sets-eq (a ∷ b ∷ c ∷ []) l at h)
 
 module _ (offered sold prices : List ℕ) where
   -- each row has three words

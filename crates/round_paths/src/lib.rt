@@ -14,19 +14,6 @@ use market::book::{Kind, Path, Period, Stage};
 use market::engine::Engine;
 use market::units::{Cents, Megawatts};
 
-// The three words of a path, put at its place in the list of answers.
-fn put_row(answers: &mut [u64], i: usize, offered: Megawatts, sold: Megawatts, price: Cents)
-    requires { (i + 1) * path_answer_size ≤ length answers.old }
-    ensures { answers.new
-        ≡ take (i * path_answer_size) answers.old ++ (offered.0 ∷ sold.0 ∷ price.0 ∷ [])
-        ++ drop (i * path_answer_size + path_answer_size) answers.old }
-{
-    let at = i * Engine::PATH_ANSWER_SIZE;
-    answers[at] = offered.0 as u64;
-    answers[at + 1] = sold.0 as u64;
-    answers[at + 2] = price.0;
-}
-
 // The answers of the first `count` paths, at the front of the list that is lent for them.
 pub fn write_paths(
     offered: [Megawatts; Engine::PATHS],
@@ -41,7 +28,8 @@ pub fn write_paths(
         ≡ with_front (path_rows (in_megawatts offered) (in_megawatts sold) (in_cents prices) count) answers.old }
 {
     for i in 0..count {
-        put_row(answers, i, offered[i], sold[i], prices[i]);
+        let row = [u64::from(offered[i].0), u64::from(sold[i].0), prices[i].0];
+        round_charges::put_row(answers, i, row);
     }
 }
 
@@ -56,9 +44,8 @@ pub fn offered_by(
     ensures { in_megawatts result ≡ map (round_offer kind round) (take count paths) ++ replicate (path_limit - count) 0 }
 {
     let mut offered = [Megawatts(0); Engine::PATHS];
-    for i in 0..count {
-        let quantity = call_open_offers::offered_in(kind, round, paths[i]);
-        offered[i] = quantity;
+    for (i, path) in paths[..count].iter().enumerate() {
+        offered[i] = call_open_offers::offered_in(kind, round, *path);
     }
     offered
 }
@@ -68,14 +55,9 @@ fn with_sold(path: Path, more: Megawatts) -> Path
     requires more_value { sound_quantity more.0 ≡ true }
     ensures { result ≡ with_sold path more.0 }
 {
-    let direction = path.direction;
-    let offer = path.offer;
-    let sold = path.sold;
     Path {
-        direction,
-        zone: path.zone,
-        offer,
-        sold: Megawatts(sold.0 + more.0),
+        sold: Megawatts(path.sold.0 + more.0),
+        ..path
     }
 }
 
@@ -91,9 +73,8 @@ pub fn sold_of(
     ensures { result ≡ sold_to paths (in_megawatts sold) count }
 {
     let mut next = paths;
-    for i in 0..count {
-        let path = with_sold(paths[i], sold[i]);
-        next[i] = path;
+    for (i, path) in paths[..count].iter().enumerate() {
+        next[i] = with_sold(*path, sold[i]);
     }
     next
 }
@@ -102,18 +83,13 @@ pub fn sold_of(
 fn after(kind: Kind, round: u32, period: Period) -> Stage
     ensures { result ≡ after_round kind round period }
 {
-    match kind {
-        Kind::Short => Engine::idle(),
-        Kind::Long => {
-            if round == 1 {
-                return Stage::Open {
-                    kind,
-                    round: 2,
-                    period,
-                };
-            }
-            Engine::idle()
-        }
+    match (kind, round) {
+        (Kind::Long, 1) => Stage::Open {
+            kind,
+            round: 2,
+            period,
+        },
+        _ => Engine::idle(),
     }
 }
 

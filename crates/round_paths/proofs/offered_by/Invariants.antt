@@ -9,4 +9,4 @@ use Rattle.call_open_offers.specs.Offers.{round_offer}
 use Rattle.round_paths.proofs.offered_by.Given as goal
 
 abbrev pub invariant-loop-i : goal.invariant-loop-i
-invariant-loop-i l = (l.i ≤ l.count) × (in_megawatts l.offered ≡ filled (round_offer l.kind l.round) l.paths path_limit 0 l.i)
+invariant-loop-i l = (l.i ≤ l.count) × (in_megawatts l.offered ≡ filled (round_offer l.kind l.round) l.fn.paths path_limit 0 l.i)

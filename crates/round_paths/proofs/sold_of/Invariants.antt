@@ -8,4 +8,4 @@ use Rattle.round_paths.specs.PathSales.{sold_to}
 use Rattle.round_paths.proofs.sold_of.Given as goal
 
 abbrev pub invariant-loop-i : goal.invariant-loop-i
-invariant-loop-i l = (l.i ≤ l.count) × (l.next ≡ sold_to l.paths (in_megawatts l.sold) l.i)
+invariant-loop-i l = (l.i ≤ l.count) × (l.next ≡ sold_to l.fn.paths (in_megawatts l.sold) l.i)
