@@ -1,12 +1,12 @@
 -- Lines written and winners counted bid by bid, along a walk over a list of words.
-use mathlib.Core.Path.{◌≡◌, sym, ◌∙◌, ap, subst}
+use mathlib.Core.Path.{◌≡◌, refl, sym, ◌∙◌, ap, subst}
 use mathlib.Core.Bool.{true, cond}
 use mathlib.Core.List.{List, [], ◌∷◌, ◌++◌}
 use Prim.Native.Nat.{ℕ, ◌+◌, ◌≤◌, ◌<◌}
-use native.Mathlib.Omega.{arith}
 use lib.Dec.{ltb}
 use lib.ListN.{length}
-use Rattle.market.proofs.Tests.{kept-at-most}
+use Rattle.std.specs.List.{count_by, range_with_len}
+use Rattle.std.proofs.lemmas.List.Sums.{sum_by-cons}
 use Rattle.market.specs.Limits.{path_limit}
 use Rattle.text_numbers.specs.Put.{Put}
 use Rattle.round_bids.proofs.BidLaws.{fits-list}
@@ -22,14 +22,14 @@ pub bid-whole : (words : List ℕ) (k place : ℕ) → Walk path_limit words k p
 bid-whole words k place walk inside = fits-list path_limit words place (bid-right path_limit words k place walk inside)
 
 -- the lines of the first `k` bids are written, and those of the rest are to come
-pub record LinesTo (lines : ℕ → List Bid → List ℕ) (words before : List ℕ) (at k place end : ℕ) (out : List ℕ) : Type 0 where
+pub record LinesTo (lines : ℕ → List Bid → List ℕ) (words before : List ℕ) (at end : ℕ) (out : List ℕ) (k place : ℕ) : Type 0 where
   pub walk : Walk path_limit words k place
   pub to : WrittenTo before at (lines 0 (bids_of words)) (lines k (left walk)) end out
 
 pub lines_start :
     (lines :
     ℕ → List Bid → List ℕ) (words before : List ℕ) (at : ℕ) → sound_list path_limit words ≡ true → at + length (lines 0 (bids_of words)) ≤ length before
-    → LinesTo lines words before at 0 0 at before
+    → LinesTo lines words before at at before 0 0
 lines_start lines words before at ok room =
     record {
       walk = walk_start path_limit words ok;
@@ -41,14 +41,14 @@ lines_start lines words before at ok room =
 -- no bid is left
 pub lines-done :
     {lines :
-    ℕ → List Bid → List ℕ} {words before : List ℕ} {at k place end : ℕ} {out : List ℕ} → LinesTo lines words before at k place end out → lines k [] ≡ [] → length words ≤ place
+    ℕ → List Bid → List ℕ} {words before : List ℕ} {at k place end : ℕ} {out : List ℕ} → LinesTo lines words before at end out k place → lines k [] ≡ [] → length words ≤ place
     → Put before at (lines 0 (bids_of words)) out end
 lines-done {lines} {words} {before} {at} {k} {place} s none past =
     written-done s.to (ap (lines k) (walk-done path_limit words k place s.walk past) ∙ none)
 
 -- a bid's own lines, and those of the bids after it
 module _ (part : ℕ → Bid → List ℕ) (lines : ℕ → List Bid → List ℕ) (more : (k : ℕ) (b : Bid) (bs : List Bid) → lines k (b ∷ bs) ≡ part k b ++ lines (k + 1) bs) {words before : List ℕ}
-    {at k place end : ℕ} {out : List ℕ} (s : LinesTo lines words before at k place end out) (inside : place < length words) where
+    {at k place end : ℕ} {out : List ℕ} (s : LinesTo lines words before at end out k place) (inside : place < length words) where
   after : Walk path_limit words (k + 1) (bid_end words place)
   after = walk-on path_limit words k place s.walk inside
 
@@ -64,63 +64,17 @@ module _ (part : ℕ → Bid → List ℕ) (lines : ℕ → List Bid → List �
 
   -- and they are written
   pub lines-on :
-      {r : ℕ} {next : List ℕ} {to : ℕ} → Put out end (part k (bid_at words place)) next r → to ≡ bid_end words place
-      → LinesTo lines words before at (k + 1) to r next
-  lines-on {r} {next} {to} put place_is =
-      subst (λ (p : ℕ). LinesTo lines words before at (k + 1) p r next) (sym place_is)
-      (record {
+      {r : ℕ} {next : List ℕ} → Put out end (part k (bid_at words place)) next r
+      → LinesTo lines words before at r next (k + 1) (bid_end words place)
+  lines-on put =
+      record {
         walk = after;
         to = written_on s.to (part k (bid_at words place)) (lines (k + 1) (left after)) splits put;
-      })
+      }
 
--- `count` is how many of the first `k` bids won
-pub record WinnersTo (words answers : List ℕ) (count k place : ℕ) : Type 0 where
-  pub walk : Walk path_limit words k place
-  pub few : count ≤ k
-  pub sum : winners answers 0 (bids_of words) ≡ count + winners answers k (left walk)
-
--- 1 for a bid that won, and 0 for one that did not
-abbrev pub one_if : List ℕ → ℕ → ℕ
-one_if answers k = cond (ltb 0 (won_in answers k)) 1 0
-
-pub one-most : (answers : List ℕ) (k : ℕ) → one_if answers k ≤ 1
-one-most answers k = kept-at-most (ltb 0 (won_in answers k)) 1
-
-pub winners-start : (words answers : List ℕ) → sound_list path_limit words ≡ true → WinnersTo words answers 0 0 0
-winners-start words answers ok =
-    record {
-      walk = walk_start path_limit words ok;
-      few = omega arith;
-      sum =
-          ap (winners answers 0) (sym (left-start path_limit words ok))
-          ∙ (let n = winners answers 0 (left (walk_start path_limit words ok)) in let same : n ≡ 0 + n = omega arith in same);
-    }
-
-module _ {words answers : List ℕ} {count k place : ℕ} (s : WinnersTo words answers count k place) where
-  pub winners-done : length words ≤ place → count ≡ winners answers 0 (bids_of words)
-  winners-done past =
-      omega (arith, s.sum ∙ ap (λ (l : List Bid). count + winners answers k l) (walk-done path_limit words k place s.walk past))
-
-  pub winners-on : place < length words → {one to : ℕ} → one ≡ one_if answers k → to ≡ bid_end words place → WinnersTo words answers (count + one) (k + 1) to
-  winners-on inside {one} {to} is place_is =
-      let walk = walk-on path_limit words k place s.walk inside in
-      let rest = winners answers (k + 1) (left walk) in
-      let split : winners answers k (left s.walk) ≡ one_if answers k + rest = ap (winners answers k) (left-splits path_limit words k place s.walk inside) in
-      let few = one-most answers k in
-      let fewer = s.few in
-      let total = s.sum in
-      subst (λ (p : ℕ). WinnersTo words answers (count + one) (k + 1) p) (sym place_is)
-      (record {
-        walk = walk;
-        few = omega (arith, is, few, fewer);
-        sum = omega (arith, total, split, is);
-      })
-
--- every bid was counted
-pub bids-counted : {words : List ℕ} {k place : ℕ} → Walk path_limit words k place → length words ≤ place → k ≡ length (bids_of words)
-bids-counted {words} {k} {place} walk past =
-    omega (arith, walk.counted ∙ ap (λ (l : List Bid). k + length l) (walk-done path_limit words k place walk past))
-
-pub bids-on : {words : List ℕ} {k place : ℕ} → Walk path_limit words k place → place < length words → {to : ℕ} → to ≡ bid_end words place → Walk path_limit words (k + 1) to
-bids-on {words} {k} {place} walk inside place_is =
-    subst (λ (p : ℕ). Walk path_limit words (k + 1) p) (sym place_is) (walk-on path_limit words k place walk inside)
+-- winners counted by the numbers of the bids
+pub winners-counted : (answers : List ℕ) (bids : List Bid) (k : ℕ) → winners answers k bids ≡ count_by (λ b. ltb 0 (won_in answers b)) (range_with_len k (length bids))
+winners-counted answers [] k = refl
+winners-counted answers (b ∷ bs) k =
+    ap (λ (n : ℕ). cond (ltb 0 (won_in answers k)) 1 0 + n) (winners-counted answers bs (k + 1))
+    ∙ sym (sum_by-cons (λ (n : ℕ). cond (ltb 0 (won_in answers n)) 1 0) k (range_with_len (k + 1) (length bs)))

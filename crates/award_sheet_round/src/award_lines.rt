@@ -60,12 +60,8 @@ pub fn put_award_lines(out: &mut [u8], at: usize, words: &[u32], answers: &[u64]
     ensures { Put out.old at (award_lines answers.now 0 (bids_of words.now)) out.new result }
 {
     let mut end = at;
-    let mut k: usize = 0;
-    let mut place: usize = 0;
-    while place < words.len() {
+    for (k, place) in round_bids::places(words).enumerate() {
         end = put_award(out, end, words, place, answers, k);
-        k += 1;
-        place = round_bids::bid_end(words, place);
     }
     end
 }

@@ -20,7 +20,7 @@ fn put_bids_part(out: &mut [u8], at: usize, words: &[u32], answers: &[u64]) -> u
     requires words_in_bounds { at + length (bids_part answers.now (bids_of words.now)) ≤ length out.old }
     ensures { Put out.old at (bids_part answers.now (bids_of words.now)) out.new result }
 {
-    let count = walks::bid_count(words);
+    let count = round_bids::bid_count(words);
     let next = text_writing::put_count(out, at, b"bids", count as u64);
     bid_lines::put_bid_lines(out, next, words, answers)
 }

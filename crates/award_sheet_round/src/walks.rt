@@ -1,5 +1,5 @@
-// How many bids a round has, and how many of them won.
-ghost use Rattle.std.specs.Prelude.{◌≡◌, cond, ◌+◌, ◌*◌, ◌≤◌, ltb, length};
+// How many bids of a round won.
+ghost use Rattle.std.specs.Prelude.{◌≡◌, ◌+◌, ◌*◌, ◌≤◌, ltb, length};
 ghost use Rattle.market.specs.Limits.{bid_answer_size, bid_answer_words};
 ghost use Rattle.round_bids.specs.BidRefusals.{BidList};
 ghost use Rattle.round_bids.specs.Bids.{bids_of};
@@ -8,29 +8,12 @@ ghost use Rattle.award_sheet_round.specs.RoundLines.{winners};
 
 use market::engine::Engine;
 
-// How many bids a list of words has.
-pub fn bid_count(words: &[u32]) -> usize
-    requires { BidList words.now }
-    ensures { result ≡ length (bids_of words.now) }
-{
-    let mut k: usize = 0;
-    let mut place: usize = 0;
-    while place < words.len() {
-        k += 1;
-        place = round_bids::bid_end(words, place);
-    }
-    k
-}
-
-// 1 for a bid that won, and 0 for one that did not.
-fn won_one(answers: &[u64], bid: usize) -> usize
+// Whether a bid won.
+fn won(answers: &[u64], bid: usize) -> bool
     requires { (bid + 1) * bid_answer_size ≤ length answers.now }
-    ensures { result ≡ cond (ltb 0 (won_in answers.now bid)) 1 0 }
+    ensures { result ≡ ltb 0 (won_in answers.now bid) }
 {
-    if 0 < answers[bid * Engine::BID_ANSWER_SIZE + 2] {
-        return 1;
-    }
-    0
+    0 < answers[bid * Engine::BID_ANSWER_SIZE + 2]
 }
 
 // How many bids won.
@@ -39,13 +22,7 @@ pub fn winner_count(words: &[u32], answers: &[u64]) -> usize
     requires bid_answer_words_in_bounds { bid_answer_words ≤ length answers.now }
     ensures { result ≡ winners answers.now 0 (bids_of words.now) }
 {
-    let mut count: usize = 0;
-    let mut k: usize = 0;
-    let mut place: usize = 0;
-    while place < words.len() {
-        count += won_one(answers, k);
-        k += 1;
-        place = round_bids::bid_end(words, place);
-    }
-    count
+    (0..round_bids::bid_count(words))
+        .filter(|bid| won(answers, *bid))
+        .count()
 }

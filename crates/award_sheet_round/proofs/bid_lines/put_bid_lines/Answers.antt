@@ -1,48 +1,53 @@
+use borrow.Author.Rules.{rules}
 use native.Mathlib.Omega.{arith}
 use mathlib.Core.Path.{refl}
 use Rattle.market.specs.Limits.{path_limit}
+use Rattle.round_bids.proofs.Turns.{kept, turn, past_end}
 use Rattle.round_bids.proofs.Walk.{bid-below}
 use Rattle.text_writing.proofs.PutLaws.{written_same}
 use Rattle.award_sheet_round.specs.RoundLines.{award_bid_line, award_bid_lines}
-use Rattle.award_sheet_round.proofs.WalkLaws.{bid-whole, lines_start, lines-done, lines_fit, lines-on}
+use Rattle.award_sheet_round.proofs.WalkLaws.{LinesTo, bid-whole, lines_start, lines-done, lines_fit, lines-on}
 use Rattle.award_sheet_round.proofs.bid_lines.put_bid_lines.Goals as goal
 
-pub loop-place-init : goal.loop-place-init
-loop-place-init c =
+pub loop-k-init : goal.loop-k-init
+loop-k-init c =
     let a = c.args in
-    lines_start (award_bid_lines a.answers.now) a.words.now a.out.now a.at c.requires.bid_list.sound c.requires.words_in_bounds
+    record {
+      can = search rules;
+      ends = search rules;
+      same = search rules;
+      lines =
+          kept (LinesTo _ _ _ _ _ _) c.into_iter-k-iterator.result (search rules) (search rules)
+          (lines_start (award_bid_lines a.answers.now) a.words.now a.out.now a.at c.requires.bid_list.sound c.requires.words_in_bounds);
+    }
 
 -- at a bid: its words are inside the list, and it is one of those that a list may have
 pub put_bid_line-end-requires : goal.put_bid_line-end-requires
 put_bid_line-end-requires c =
-    let at = c.loop-place in
-    let w = c.args.words.now in
+    let u = turn c.loop-k.k-iterator c.next.new.self c.loop-k.invariant.same c.next.ensures.steps (LinesTo _ _ _ _ _ _) c.in-Some.is c.loop-k.invariant.lines in
     let l = c.args.answers.now in
-    let whole = bid-whole w at.k at.place at.invariant.walk c.loop-place-test.true in
     record {
-      header_words_in_bounds = omega (arith, whole);
-      bid_lt_bid_limit = bid-below path_limit w at.k at.place at.invariant.walk c.loop-place-test.true c.requires.bid_list.short;
+      header_words_in_bounds = omega (arith, bid-whole _ _ _ u.here.walk u.inside);
+      bid_lt_bid_limit = bid-below path_limit _ _ _ u.here.walk u.inside c.requires.bid_list.short;
       bid_answer_words_in_bounds = c.requires.bid_answer_words_in_bounds;
-      place_in_bounds = lines_fit (award_bid_line l) (award_bid_lines l) (λ k b bs. refl) at.invariant c.loop-place-test.true;
+      place_in_bounds = lines_fit (award_bid_line l) (award_bid_lines l) (λ k b bs. refl) u.here u.inside;
     }
 
-pub overflow_add-k : goal.overflow_add-k
-overflow_add-k c =
-    let at = c.loop-place in
-    omega (arith, bid-below path_limit c.args.words.now at.k at.place at.invariant.walk c.loop-place-test.true c.requires.bid_list.short)
-
-pub bid_end-place-requires : goal.bid_end-place-requires
-bid_end-place-requires c =
-    let at = c.loop-place in
-    bid-whole c.args.words.now at.k at.place at.invariant.walk c.loop-place-test.true
-
-pub loop-place-preserved : goal.loop-place-preserved
-loop-place-preserved c =
+pub loop-k-preserved : goal.loop-k-preserved
+loop-k-preserved c =
+    let u = turn c.loop-k.k-iterator c.next.new.self c.loop-k.invariant.same c.next.ensures.steps (LinesTo _ _ _ _ _ _) c.in-Some.is c.loop-k.invariant.lines in
     let l = c.args.answers.now in
-    lines-on (award_bid_line l) (award_bid_lines l) (λ k b bs. refl) c.loop-place.invariant c.loop-place-test.true c.put_bid_line-end.ensures c.bid_end-place.ensures
+    record {
+      can = search rules;
+      ends = search rules;
+      same = u.same;
+      lines = kept (LinesTo _ _ _ _ _ _) c.next.new.self u.number u.place (lines-on (award_bid_line l) (award_bid_lines l) (λ k b bs. refl) u.here u.inside c.put_bid_line-end.ensures);
+    }
 
 pub shape_of-out : goal.shape_of-out
-shape_of-out c = written_same c.loop-place.invariant.to
+shape_of-out c = written_same c.loop-k.invariant.lines.to
 
 pub returns : goal.returns
-returns c = lines-done c.loop-place.invariant refl c.loop-place-test.false
+returns c =
+    lines-done c.loop-k.invariant.lines refl
+    (past_end c.loop-k.k-iterator c.next.new.self c.loop-k.invariant.same c.next.ensures.steps c.in-None.is)

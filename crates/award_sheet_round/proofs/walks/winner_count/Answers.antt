@@ -1,37 +1,30 @@
+use Rattle.std.proofs.Common.{rules}
+use Rattle.std.proofs.lemmas.Iterator.{serves_from_Range, YieldsList-from_range}
+use Rattle.std.proofs.lemmas.Iterator.Consumers.{YieldsList-from_filter, count_from_yields_List}
+use Rattle.std.proofs.lemmas.List.Sums.{length-filter}
 use native.Mathlib.Omega.{arith}
+use mathlib.Core.Path.{sym, ◌∙◌, ap}
+use Prim.Native.Nat.{ℕ}
+use lib.Dec.{ltb}
+use Rattle.std.specs.List.{count_by, range_with_len}
 use Rattle.market.specs.Limits.{path_limit}
-use Rattle.round_bids.proofs.Walk.{bid-below}
-use Rattle.award_sheet_round.proofs.WalkLaws.{bid-whole, one-most, winners-start, winners-done, winners-on}
+use Rattle.round_bids.proofs.Walk.{bids-few}
+use Rattle.round_bids.specs.Bids.{bids_of}
+use Rattle.call_round.specs.Answers.{won_in}
+use Rattle.award_sheet_round.proofs.WalkLaws.{winners-counted}
 use Rattle.award_sheet_round.proofs.walks.winner_count.Goals as goal
 
-pub loop-place-init : goal.loop-place-init
-loop-place-init c = winners-start c.args.words.now c.args.answers.now c.requires.bid_list.sound
-
-pub won_one-count-requires : goal.won_one-count-requires
-won_one-count-requires c =
-    let at = c.loop-place in
-    let below = bid-below path_limit c.args.words.now at.k at.place at.invariant.walk c.loop-place-test.true c.requires.bid_list.short in
-    omega (arith, below, c.requires.bid_answer_words_in_bounds)
-
-pub overflow_add-count : goal.overflow_add-count
-overflow_add-count c =
-    let at = c.loop-place in
-    let below = bid-below path_limit c.args.words.now at.k at.place at.invariant.walk c.loop-place-test.true c.requires.bid_list.short in
-    omega (arith, below, at.invariant.few, c.won_one-count.ensures, one-most c.args.answers.now at.k)
-
-pub overflow_add-k : goal.overflow_add-k
-overflow_add-k c =
-    let at = c.loop-place in
-    omega (arith, bid-below path_limit c.args.words.now at.k at.place at.invariant.walk c.loop-place-test.true c.requires.bid_list.short)
-
--- the list has all words of the bid here
-pub bid_end-place-requires : goal.bid_end-place-requires
-bid_end-place-requires c =
-    let at = c.loop-place in bid-whole c.args.words.now at.k at.place at.invariant.walk c.loop-place-test.true
-
-pub loop-place-preserved : goal.loop-place-preserved
-loop-place-preserved c =
-    winners-on c.loop-place.invariant c.loop-place-test.true c.won_one-count.ensures c.bid_end-place.ensures
+pub count-requires-clause-can : goal.count-requires-clause-can
+count-requires-clause-can c =
+    let few = bids-few path_limit c.args.words.now c.requires.bid_list.sound c.requires.bid_list.short in
+    (tt, tt, serves_from_Range (λ x q r. search rules) (λ x low high. search rules))
 
 pub returns : goal.returns
-returns c = winners-done c.loop-place.invariant c.loop-place-test.false
+returns c =
+    let won = λ (b : ℕ). ltb 0 (won_in c.args.answers.now b) in
+    let n = c.bid_count.result in
+    count_from_yields_List c.filter.result c.count.result c.count.ensures.ran
+    (YieldsList-from_filter _ won (YieldsList-from_range 0 n n c.filter.ensures.source (omega arith)) c.filter.ensures.closure (λ x r q k. search rules))
+    ∙ length-filter won (range_with_len 0 n)
+    ∙ ap (λ (m : ℕ). count_by won (range_with_len 0 m)) c.bid_count.ensures
+    ∙ sym (winners-counted c.args.answers.now (bids_of c.args.words.now) 0)
