@@ -1,9 +1,10 @@
 // The words and the zone prices that end a journal's line, put at the front of a list.
 #![tactic(auto)]
 
-ghost use Rattle.std.specs.Prelude.{◌≡◌, ◌+◌, ◌≤◌, pos, neg_ℤ, length, drop};
+ghost use Rattle.std.specs.Prelude.{◌≡◌, List, ℕ, ◌+◌, ◌≤◌, length, drop};
 ghost use Rattle.market.specs.Books.{with_front};
 ghost use Rattle.journal_fields.specs.JournalFields as rules;
+ghost use Rattle.journal_number_lists.specs.Found.{found};
 
 use journal_fields::Price;
 
@@ -17,19 +18,59 @@ pub struct Run {
     pub used: usize,
 }
 
-// A price of this size: above 0, and below 0.
-fn above(size: u64) -> i64
-    requires { size ≤ rules.price_top }
-    ensures { result ≡ pos size }
-{
-    size as i64
+// A number that is present at a place, and the bytes that it takes.
+#[derive(Clone, Copy)]
+struct Number<N> {
+    value: N,
+    used: usize,
 }
 
-fn below(size: u64) -> i64
-    requires { size ≤ rules.price_top }
-    ensures { result ≡ neg_ℤ (pos size) }
-{
-    0 - size as i64
+// A number that a line has a list of.
+trait Listed: Copy {
+    // The bytes that it takes at the front of a text, 0 where none is present, and what it says.
+    ghost used: { List ℕ → ℕ };
+
+    ghost value: { List ℕ → Self };
+
+    // The number at a place after its space.
+    fn read(line: &[u8], at: usize) -> Option<Number<Self>>
+        requires { at ≤ length line.now }
+        ensures field { result ≡ found used value (drop at line.now) }
+        ensures fits { at + used (drop at line.now) ≤ length line.now };
+}
+
+impl Listed for u32 {
+    ghost used = { rules.word_used };
+
+    ghost value = { rules.word_value };
+
+    fn read(line: &[u8], at: usize) -> Option<Number<u32>> {
+        let word = journal_fields::number_at(line, at, text_fields::WORD_TOP);
+        if word.used == 0 {
+            return None;
+        }
+        Some(Number {
+            value: word.value as u32,
+            used: word.used,
+        })
+    }
+}
+
+impl Listed for i64 {
+    ghost used = { rules.price_used };
+
+    ghost value = { rules.price_value };
+
+    fn read(line: &[u8], at: usize) -> Option<Number<i64>> {
+        let price = price_at(line, at);
+        if price.used == 0 {
+            return None;
+        }
+        Some(Number {
+            value: price.value,
+            used: price.used,
+        })
+    }
 }
 
 // The price at a place after its space.
@@ -44,15 +85,35 @@ fn price_at(line: &[u8], at: usize) -> Price
             return Price { value: 0, used: 0 };
         }
         return Price {
-            value: below(size.value),
+            value: -(size.value as i64),
             used: 2 + size.used,
         };
     }
     let found = journal_fields::number_at(line, at, PRICE_TOP);
     Price {
-        value: above(found.value),
+        value: found.value as i64,
         used: found.used,
     }
+}
+
+// Numbers at a place, one after another, put at the front of a list.
+fn numbers_at<N: Listed>(line: &[u8], at: usize, out: &mut [N]) -> Run
+    requires { at ≤ length line.now }
+    ensures count { result.count ≡ length (rules.fields_said N.used N.value (length out.old) (drop at line.now)) }
+    ensures used { result.used ≡ rules.fields_used N.used N.value (length out.old) (drop at line.now) }
+    ensures fits { at + result.used ≤ length line.now }
+    ensures list { out.new ≡ with_front (rules.fields_said N.used N.value (length out.old) (drop at line.now)) out.old }
+{
+    let mut run = Run { count: 0, used: 0 };
+    while run.count < out.len() {
+        let Some(next) = N::read(line, at + run.used) else {
+            return run;
+        };
+        out[run.count] = next.value;
+        run.count += 1;
+        run.used += next.used;
+    }
+    run
 }
 
 // The words, numbers of 32 bits, at a place, one after another, put at the front of a list.
@@ -63,24 +124,7 @@ pub fn words_at(line: &[u8], at: usize, out: &mut [u32]) -> Run
     ensures fits { at + result.used ≤ length line.now }
     ensures list { out.new ≡ with_front (rules.words_said (length out.old) (drop at line.now)) out.old }
 {
-    let mut place = at;
-    let mut i = 0;
-    while i < out.len() {
-        let next = journal_fields::number_at(line, place, text_fields::WORD_TOP);
-        if next.used == 0 {
-            return Run {
-                count: i,
-                used: place - at,
-            };
-        }
-        out[i] = next.value as u32;
-        place += next.used;
-        i += 1;
-    }
-    Run {
-        count: i,
-        used: place - at,
-    }
+    numbers_at(line, at, out)
 }
 
 // The prices at a place, one after another, put at the front of a list.
@@ -91,23 +135,5 @@ pub fn prices_at(line: &[u8], at: usize, out: &mut [i64]) -> Run
     ensures fits { at + result.used ≤ length line.now }
     ensures list { out.new ≡ with_front (rules.prices_said (length out.old) (drop at line.now)) out.old }
 {
-    let mut place = at;
-    let mut i = 0;
-    while i < out.len() {
-        let next = price_at(line, place);
-        if next.used == 0 {
-            return Run {
-                count: i,
-                used: place - at,
-            };
-        }
-        let value = next.value;
-        out[i] = value;
-        place += next.used;
-        i += 1;
-    }
-    Run {
-        count: i,
-        used: place - at,
-    }
+    numbers_at(line, at, out)
 }

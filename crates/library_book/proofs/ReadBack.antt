@@ -8,7 +8,7 @@ use native.Mathlib.Omega.{arith}
 use lib.Dec.{eqb, lit<}
 use lib.IntN.{ℤ, pos}
 use lib.ListN.{length, get_or, take, drop, take-append-drop, get_or-append}
-use lib.Seq.{get_or-append-add, take-suc, take-length, take_at, length-take-le}
+use lib.Seq.{get_or-append-add, take_at, length-take-le}
 use borrow.Author.Tests.{eq-eqb, eqb-true, ltb-true}
 use Rattle.market.proofs.Every.{every-within}
 use Rattle.market.proofs.Filled.{zeros}
@@ -26,8 +26,8 @@ use Rattle.market.specs.declared.book.Stage.TheVariants.{Idle, Open}
 use Rattle.text_numbers.specs.Put.{put_at}
 use Rattle.library_book.specs.BookWords.{front_size, path_size, bidder_size, bidders_from, book_size, direction_number, kind_number}
 use Rattle.library_book.specs.BookWords.{path_words, bidder_words, stage_words, front_words, each, book_words, narrow}
-use Rattle.library_book.specs.BookWords.{direction_in, kind_in, stage_at, gathered, path_in, bidder_in, book_in, same_words, encodes_book, fits32, fits_path, fits_bidder, fits_stage, FitsBook}
-use Rattle.library_book.proofs.WordLaws.{front_length, up-to-paths, book-length, laid-whole}
+use Rattle.library_book.specs.BookWords.{direction_in, kind_in, stage_at, path_in, bidder_in, book_in, same_words, encodes_book, fits32, fits_path, fits_bidder, fits_stage, FitsBook}
+use Rattle.library_book.proofs.WordLaws.{gathered-is, front_length, up-to-paths, book-length, laid-whole}
 
 -- ---- Numbers
 
@@ -43,17 +43,6 @@ kind-back Short = refl
 kind-back Long = refl
 
 -- ---- Slots
-
--- where a function gives the element at each place of a list, what it gathers is the list
-gathered-take : {X : Type 0} (f : ℕ → X) (xs : List X) (d : X) (n : ℕ) → n ≤ length xs → ((i : ℕ) → i < n → f i ≡ get_or xs i d) → gathered f n ≡ take n xs
-gathered-take f xs d zero within is = refl
-gathered-take f xs d (suc n) within is =
-    ap₂ (λ (l : List _) (x : _). l ++ (x ∷ [])) (gathered-take f xs d n (omega arith) (λ i h. is i (omega arith))) (is n (omega arith))
-    ∙ sym (take-suc xs n d (omega arith))
-
-gathered-is : {X : Type 0} (f : ℕ → X) (xs : List X) (d : X) (n : ℕ) → length xs ≡ n → ((i : ℕ) → i < n → f i ≡ get_or xs i d) → gathered f n ≡ xs
-gathered-is f xs d n long is =
-    gathered-take f xs d n (omega arith) is ∙ ap (λ (k : ℕ). take k xs) (sym long) ∙ take-length xs
 
 module _ {X : Type 0} (words : X → List ℕ) (size : ℕ) (sized : (x : X) → length (words x) ≡ size) (d : X) (k : ℕ) (below : k < size) where
   -- where the words of an element are

@@ -1,65 +1,20 @@
 -- Laws about words that encode a book, tested one by one and part by part.
 use mathlib.Core.Path.{◌≡◌, refl, sym, ◌∙◌, ap, ap₂}
-use mathlib.Core.Bool.{Bool, true, false, cond, ◌&&◌, and-true, and_assoc}
+use mathlib.Core.Bool.{Bool, true, ◌&&◌, and_assoc}
 use mathlib.Core.List.{List, [], ◌∷◌, ◌++◌}
-use Prim.Native.Nat.{ℕ, zero, suc, ◌+◌, ◌*◌, ◌^◌, ◌≤◌, ◌<◌}
+use Prim.Native.Nat.{ℕ, zero, suc, ◌+◌, ◌*◌, ◌≤◌}
 use native.Mathlib.Numerals.{add-one}
 use native.Mathlib.Omega.{arith}
-use lib.Dec.{leb, ltb, eqb}
+use lib.Dec.{eqb}
 use lib.IntN.{pos}
 use lib.ListN.{length, get_or, take, drop, length-drop}
 use lib.Seq.{drop-cons, drop-drop, take-add, length-take-le}
-use borrow.Author.Tests.{ltb-true, ltb-false, lt-leb, eq-eqb, ne_eqb}
-use Rattle.market.specs.Books.{day_number}
 use Rattle.market.specs.Limits.{path_limit, bidder_limit}
 use Rattle.market.specs.declared.book.Book.{Book}
-use Rattle.market.specs.declared.book.Direction.TheVariants.{Export, Import}
-use Rattle.market.specs.declared.book.Kind.TheVariants.{Short, Long}
-use Rattle.market.specs.declared.book.Stage.{Stage}
-use Rattle.market.specs.declared.book.Stage.TheVariants.{Idle, Open}
-use Rattle.library_book.specs.BookWords.{front_size, path_size, bidder_size, bidders_from, book_size, direction_number, kind_number, path_words, bidder_words, stage_words, five, front_words, each}
-use Rattle.library_book.specs.BookWords.{book_words, narrow, direction_in, kind_in, path_at, bidder_at, stage_at, gathered, path_in, bidder_in, book_in, same_words, encodes_book}
+use Rattle.library_book.specs.BookWords.{front_size, path_size, bidder_size, bidders_from, book_size, path_words, bidder_words, stage_words, front_words, each}
+use Rattle.library_book.specs.BookWords.{book_words, stage_at, gathered, path_in, bidder_in, book_in, same_words, encodes_book}
 use Rattle.library_book.proofs.ReadBack.{same_self}
 use Rattle.library_book.proofs.WordLaws.{gathered-length, each-length, each_snoc, front_length, up-to-paths}
-
--- ---- One word
-
-pub narrow-same : (n : ℕ) → ltb n (2 ^ 32) ≡ eqb n (narrow n)
-narrow-same n = go (ltb n (2 ^ 32)) refl
-  where
-    go : (t : Bool) → ltb n (2 ^ 32) ≡ t → t ≡ eqb n (narrow n)
-    go true e =
-        let below : n < 2 ^ 32 = ltb-true n (2 ^ 32) e in
-        sym (eq-eqb n (narrow n) (omega arith))
-    go false e =
-        let above : 2 ^ 32 ≤ n = ltb-false n (2 ^ 32) e in
-        sym (ne_eqb n (narrow n) (λ same. omega arith))
-
--- only 0 and 1 are the number of what they are read as
-abbrev two_fold : ℕ → ℕ
-two_fold n = cond (eqb n 0) 0 1
-
-two-same : (n : ℕ) → leb n 1 ≡ eqb n (two_fold n)
-two-same zero = refl
-two-same (suc zero) = refl
-two-same (suc (suc n)) =
-    lt-leb (suc (suc n)) 1 (omega arith)
-    ∙ sym (ap (λ (t : Bool). eqb (suc (suc n)) (cond t 0 1)) (ne_eqb (suc (suc n)) 0 (λ e. omega arith))
-    ∙ ne_eqb (suc (suc n)) 1 (λ e. omega arith))
-
-pub direction-same : (n : ℕ) → leb n 1 ≡ eqb n (direction_number (direction_in n))
-direction-same n = two-same n ∙ ap (eqb n) (go (eqb n 0))
-  where
-    go : (t : Bool) → cond t 0 1 ≡ direction_number (cond t Export Import)
-    go true = refl
-    go false = refl
-
-pub kind-same : (n : ℕ) → leb n 1 ≡ eqb n (kind_number (kind_in n))
-kind-same n = two-same n ∙ ap (eqb n) (go (eqb n 0))
-  where
-    go : (t : Bool) → cond t 0 1 ≡ kind_number (cond t Short Long)
-    go true = refl
-    go false = refl
 
 -- ---- Words one after another
 
@@ -90,53 +45,6 @@ module _ (words : List ℕ) (at : ℕ) where
       ap (λ (m : ℕ). take (suc n) (drop m words)) here
       ∙ spell 0 (suc n) (omega arith)
       ∙ ap (λ (m : ℕ). get_or words m 0 ∷ spelled 1 n) (sym here)
-
--- ---- A path, a bidder and the stage
-
-module _ (words : List ℕ) (at : ℕ) where
-  abbrev word : ℕ → ℕ
-  word k = get_or words (at + k) 0
-
-  pub path-same :
-      at + path_size ≤ length words → (direction zone offer sold : Bool) → direction
-      ≡ eqb (get_or words at 0) (direction_number (direction_in (get_or words at 0))) → zone ≡ eqb (word 1) (narrow (word 1))
-      → offer ≡ eqb (word 2) (narrow (word 2)) → sold ≡ eqb (word 3) (narrow (word 3))
-      → (direction && (zone && (offer && sold))) ≡ same_words (take path_size (drop at words)) (path_words (path_at words at))
-  path-same room direction zone offer sold d z o s =
-      ap₂ ◌&&◌ d (ap₂ ◌&&◌ z (ap₂ ◌&&◌ o (s ∙ sym (and-true (eqb (word 3) (narrow (word 3)))))))
-      ∙ sym (ap (λ (l : List ℕ). same_words l (path_words (path_at words at))) (spell-from words at 3 room))
-
-  pub bidder-same : at + bidder_size ≤ length words → eqb (word 5) (narrow (word 5)) ≡ same_words (take bidder_size (drop at words)) (bidder_words (bidder_at words at))
-  bidder-same room =
-      sym (ap (λ (l : List ℕ). same_words l (bidder_words (bidder_at words at))) (spell-from words at 5 room)
-      ∙ ap₂ ◌&&◌ (eq-eqb (get_or words at 0) (get_or words at 0) refl)
-      (ap₂ ◌&&◌ (eq-eqb (word 1) (word 1) refl)
-      (ap₂ ◌&&◌ (eq-eqb (word 2) (word 2) refl)
-      (ap₂ ◌&&◌ (eq-eqb (word 3) (word 3) refl)
-      (ap₂ ◌&&◌ (eq-eqb (word 4) (word 4) refl) (and-true (eqb (word 5) (narrow (word 5)))))))))
-
-module _ (words : List ℕ) (room : front_size ≤ length words) where
-  abbrev at : ℕ → ℕ
-  at k = get_or words k 0
-
-  stage-spelled : take 5 (drop 2 words) ≡ five (at 2) (at 3) (at 4) (at 5) (at 6)
-  stage-spelled = spell-from words 2 4 room
-
-  abbrev opened : Stage
-  opened = Open (kind_in (at 3)) (narrow (at 4)) (record { first = day_number (narrow (at 5)); last = day_number (narrow (at 6)) })
-
-  pub idle-same : at 2 ≡ 0 → (eqb (at 3) 0 && (eqb (at 4) 0 && (eqb (at 5) 0 && eqb (at 6) 0))) ≡ same_words (take 5 (drop 2 words)) (stage_words (stage_at words))
-  idle-same e =
-      sym (ap₂ same_words stage-spelled (ap (λ (t : Bool). stage_words (cond t Idle opened)) (eq-eqb (at 2) 0 e))
-      ∙ ap₂ ◌&&◌ (eq-eqb (at 2) 0 e)
-      (ap (eqb (at 3) 0 &&◌) (ap (eqb (at 4) 0 &&◌) (ap (eqb (at 5) 0 &&◌) (and-true (eqb (at 6) 0))))))
-
-  pub open-same :
-      (at 2 ≡ 0 → ⊥) → (kind round first last : Bool) → kind ≡ eqb (at 3) (kind_number (kind_in (at 3))) → round ≡ eqb (at 4) (narrow (at 4)) → first ≡ eqb (at 5) (narrow (at 5))
-      → last ≡ eqb (at 6) (narrow (at 6)) → (eqb (at 2) 1 && (kind && (round && (first && last)))) ≡ same_words (take 5 (drop 2 words)) (stage_words (stage_at words))
-  open-same other kind round first last k r f l =
-      ap (eqb (at 2) 1 &&◌) (ap₂ ◌&&◌ k (ap₂ ◌&&◌ r (ap₂ ◌&&◌ f (l ∙ sym (and-true (eqb (at 6) (narrow (at 6))))))))
-      ∙ sym (ap₂ same_words stage-spelled (ap (λ (t : Bool). stage_words (cond t Idle opened)) (ne_eqb (at 2) 0 other)))
 
 -- ---- Parts of one kind, one after another
 

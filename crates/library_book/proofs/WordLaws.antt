@@ -1,12 +1,16 @@
--- Laws about slots that a loop gathers from words, about words that it writes one after another, and about the words of a book.
-use mathlib.Core.Path.{◌≡◌, refl, sym, ◌∙◌, ap, ap₂}
+-- Laws about parts that are gathered from words, about words that it writes one after another, and about the words of a book.
+use mathlib.Core.Path.{◌≡◌, refl, sym, ◌∙◌, ap, ap₂, subst}
+use mathlib.Core.Bool.{Bool, true, false}
 use mathlib.Core.List.{List, [], ◌∷◌, ◌++◌, append_assoc, append-nil}
-use Prim.Native.Nat.{ℕ, zero, suc, ◌+◌, ◌*◌, ◌-◌, ◌≤◌, ◌<◌}
+use Prim.Native.Nat.{ℕ, zero, suc, ◌+◌, ◌*◌, ◌≤◌, ◌<◌}
 use native.Mathlib.Numerals.{add-one}
 use native.Mathlib.Omega.{arith}
-use lib.ListN.{length, get_or, take, set, replicate, length-append, drop_of_length-le}
-use lib.Seq.{sets-eq, take-suc, take_all, length-take-le}
-use Rattle.market.proofs.Filled.{fill-snoc}
+use lib.Dec.{ltb}
+use lib.ListN.{length, get_or, take, set, length-append, drop_of_length-le}
+use lib.Seq.{sets-eq, take-suc, take-length, take_all, length-take-le}
+use denote.Param.Members.{Mut, Called}
+use borrow.Author.Tests.{ltb-true, ltb-false}
+use Rattle.std.specs.Array.{IsFromFnResult, IsFromFnResultFrom}
 use Rattle.market.specs.Limits.{path_limit, bidder_limit}
 use Rattle.market.specs.declared.book.Book.{Book}
 use Rattle.market.specs.declared.book.Stage.{Stage}
@@ -16,29 +20,40 @@ use Rattle.text_numbers.proofs.PutLaws.{put-none}
 use Rattle.text_writing.proofs.PutLaws.{put-behind}
 use Rattle.library_book.specs.BookWords.{front_size, path_size, bidder_size, bidders_from, book_size, path_words, bidder_words, stage_words, front_words, each, book_words, gathered}
 
--- ---- Slots gathered one by one, where others fill the list up to `n`
+-- ---- Parts gathered one by one
 
 module _ {X : Type 0} (f : ℕ → X) where
   pub gathered-length : (i : ℕ) → length (gathered f i) ≡ i
   gathered-length zero = refl
   gathered-length (suc i) = omega (arith, length-append (gathered f i) (f i ∷ []), gathered-length i)
 
-  module _ (n : ℕ) (blank : X) where
-    abbrev pub gathered_to : ℕ → List X
-    gathered_to i = gathered f i ++ replicate (n - i) blank
+-- where a function gives the element at each place of a list, what it gathers is the list
+gathered-take : {X : Type 0} (f : ℕ → X) (xs : List X) (d : X) (n : ℕ) → n ≤ length xs → ((i : ℕ) → i < n → f i ≡ get_or xs i d) → gathered f n ≡ take n xs
+gathered-take f xs d zero within is = refl
+gathered-take f xs d (suc n) within is =
+    ap₂ (λ (l : List _) (x : _). l ++ (x ∷ [])) (gathered-take f xs d n (omega arith) (λ i h. is i (omega arith))) (is n (omega arith))
+    ∙ sym (take-suc xs n d (omega arith))
 
-    -- one more
-    pub gather-next : (i : ℕ) (x : X) → i < n → x ≡ f i → set (gathered_to i) i x ≡ gathered_to (i + 1)
-    gather-next i x below is =
-        fill-snoc (gathered f i) n i blank x (gathered-length i) below
-        ∙ ap (λ (y : X). (gathered f i ++ (y ∷ [])) ++ replicate (n - (i + 1)) blank) is
-        ∙ ap (λ (k : ℕ). gathered f k ++ replicate (n - (i + 1)) blank) (sym (add-one i))
+pub gathered-is : {X : Type 0} (f : ℕ → X) (xs : List X) (d : X) (n : ℕ) → length xs ≡ n → ((i : ℕ) → i < n → f i ≡ get_or xs i d) → gathered f n ≡ xs
+gathered-is f xs d n long is =
+    gathered-take f xs d n (omega arith) is ∙ ap (λ (k : ℕ). take k xs) (sym long) ∙ take-length xs
 
-    -- all of them
-    pub all-gathered : (i : ℕ) → i ≡ n → gathered_to i ≡ gathered f n
-    all-gathered i end =
-        ap₂ (λ (k m : ℕ). gathered f k ++ replicate m blank) end (let none : n - i ≡ 0 = omega arith in none)
-        ∙ append-nil (gathered f n)
+-- what an array is made of by calls that give a function's values, and leave the closure as it was
+module _ {F X : Type 0} (g : Mut F (ℕ × Unit {0}) X) (made : F) (f : ℕ → X) (calls : (i : ℕ) (x : X) (q : F) → Called g made (i, tt) x q → (q ≡ made) × (x ≡ f i)) (xs : List X) where
+  each-made : (i n : ℕ) (q : F) → q ≡ made → IsFromFnResultFrom g q xs i n → (k : ℕ) (d : X) → i ≤ k → k < i + n → f k ≡ get_or xs k d
+  each-made i zero q same from k d low high = absurd (omega arith)
+  each-made i (suc n) q same from k d low high =
+      let one = calls i from.1 from.0 (subst (λ (s : F). Called g s (i, tt) from.1 from.0) same from.3) in
+      go (ltb i k) refl (λ (e : X). from.2.1 e ∙ one.1) (λ below. each-made (i + 1) n from.0 one.0 from.4 k d (omega arith) (omega arith))
+    where
+      go : (t : Bool) → ltb i k ≡ t → ((e : X) → get_or xs i e ≡ f i) → (i < k → f k ≡ get_or xs k d) → f k ≡ get_or xs k d
+      go true e here rest = rest (ltb-true i k e)
+      go false e here rest =
+          let last : i ≡ k = omega (arith, ltb-false i k e) in
+          subst (λ (j : ℕ). f j ≡ get_or xs j d) last (sym (here d))
+
+  pub made-gathered : (n : ℕ) → IsFromFnResult g made xs n → xs ≡ gathered f n
+  made-gathered n result = sym (gathered-is f xs (f 0) n result.long (λ k h. each-made 0 n made refl result.each k (f 0) (omega arith) (omega arith)))
 
 -- ---- The words of each element of a list, written one after another
 

@@ -4,16 +4,15 @@
 
 pub mod decode;
 pub mod encode;
+mod parts;
 pub mod valid;
 
+use crate::parts::Part;
+use market::book::{Bidder, Path};
 use market::engine::Engine;
 
 pub const FRONT_WORDS: usize = 7;
 
-pub const PATH_WORDS: usize = 4;
+pub const BIDDERS_FROM: usize = FRONT_WORDS + Engine::PATHS * Path::WORDS;
 
-pub const BIDDER_WORDS: usize = 6;
-
-pub const BIDDERS_FROM: usize = FRONT_WORDS + Engine::PATHS * PATH_WORDS;
-
-pub const BOOK_WORDS: usize = BIDDERS_FROM + Engine::BIDDERS * BIDDER_WORDS;
+pub const BOOK_WORDS: usize = BIDDERS_FROM + Engine::BIDDERS * Bidder::WORDS;

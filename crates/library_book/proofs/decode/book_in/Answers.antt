@@ -11,9 +11,9 @@ unfolding book_in
 returns c =
     let a = c.args in
     λ j. record {
-      paths = c.paths_in-paths.ensures j;
+      paths = c.read_all-paths.ensures j;
       path_count = get_or a.words.now 0 0;
-      bidders = c.bidders_in-bidders.ensures j;
+      bidders = c.read_all-bidders.ensures j;
       account = balance (to_z-of_z c.ranges.account j);
       entries = get_or a.words.now 1 0;
       stage = c.stage_at-stage.ensures j;
