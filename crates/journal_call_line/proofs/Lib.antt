@@ -1,4 +1,3 @@
 -- Laws about the lines of a journal.
-pub mod SaidLaws
 pub mod FormLaws
 pub mod LengthLaws

@@ -1,5 +1,5 @@
--- What a line of a journal says, call by call (rules 15.2 and 15.3). A line of another form says nothing, which is `Faulty` (rule 15.4).
-use Rattle.std.specs.Prelude.{◌≡◌, Bool, true, false, cond, ◌&&◌, List, [], ◌∷◌, ◌++◌, ℕ, ◌+◌, ◌*◌, ◌%◌, eqb, ℤ, length, drop}
+-- What a line of a journal says, call by call (rules 15.2 and 15.3). A line of another form says nothing (rule 15.4).
+use Rattle.std.specs.Prelude.{◌≡◌, Bool, true, false, cond, ◌&&◌, List, [], ◌∷◌, ◌++◌, ℕ, ◌+◌, ◌*◌, ◌%◌, eqb, ℤ, length, drop, Option, Some, None}
 use Rattle.market.specs.Books.{cents, day_number, with_front}
 use Rattle.market.specs.Limits.{bidder_limit, quantity_words, zones}
 use Rattle.market.specs.declared.book.Kind.{Kind}
@@ -11,11 +11,11 @@ use Rattle.engine.specs.declared.calls.Call.{Call}
 use Rattle.engine.specs.declared.calls.Call.TheVariants.{Deposit, Withdraw, Open, Round, Pay, Default, Retire, Rent, Payout, Disburse, Recover}
 use Rattle.text_fields.specs.Fields.{word_top, starts_with}
 use Rattle.text_fields.specs.declared.Field.{Field}
-use Rattle.journal_fields.specs.JournalFields.{wide_top, present, number, last_number, choice, words_said, words_used, prices_said, prices_used}
+use Rattle.journal_fields.specs.declared.Found.{Found}
+use Rattle.journal_fields.specs.JournalFields.{wide_top, present, is_found, number, last_number, choice, words_said, words_used, prices_said, prices_used}
 use Rattle.journal_call_line.specs.declared.heads.HourLine.{HourLine}
 use Rattle.journal_call_line.specs.declared.heads.Opening.{Opening}
-use Rattle.journal_call_line.specs.declared.Said.{Said}
-use Rattle.journal_call_line.specs.declared.Said.TheVariants.{Faulty, Called}
+use Rattle.journal_call_line.specs.declared.CallLine.{CallLine}
 
 -- what is read of a line: its call, which it says only if the whole line has the call's form, and the list that it ends in, of words or of prices
 pub record Reading : Type 0 where
@@ -24,12 +24,16 @@ pub record Reading : Type 0 where
   pub words : List ℕ
   pub prices : List ℤ
 
--- rule 15.4: a call and how many words and prices it has, or a line of another form
-abbrev pub said_of : Reading → Said
-said_of r = cond r.whole (Called r.call (length r.words) (length r.prices)) Faulty
+-- a call, and how many words and prices its line has
+abbrev pub called : Call → ℕ → ℕ → CallLine
+called call words prices = record { call = call; words = words; prices = prices }
+
+-- rule 15.4: a call and how many words and prices it has, or none, for a line of another form
+abbrev pub said_of : Reading → Option CallLine
+said_of r = cond r.whole (Some (called r.call (length r.words) (length r.prices))) None
 
 -- what a reader of a line leaves: what the line says, and its words and prices at the front of two lists
-pub record ReadInto (r : Reading) (said : Said) (words words' : List ℕ) (prices prices' : List ℤ) : Type 0 where
+pub record ReadInto (r : Reading) (said : Option CallLine) (words words' : List ℕ) (prices prices' : List ℤ) : Type 0 where
   pub says : said ≡ said_of r
   pub laid : words' ≡ with_front r.words words
   pub priced : prices' ≡ with_front r.prices prices
@@ -60,10 +64,6 @@ cash_option = 32 ∷ 99 ∷ 97 ∷ 115 ∷ 104 ∷ []
 abbrev pub letter_option : List ℕ
 letter_option = 32 ∷ 108 ∷ 101 ∷ 116 ∷ 116 ∷ 101 ∷ 114 ∷ []
 
--- cash or letter, by which of the two words is present
-abbrev pub funds_of : ℕ → Funds
-funds_of n = cond (eqb n 0) Cash Letter
-
 -- the call of a bidder, cash or letter, and an amount
 abbrev pub account_call : Bool → ℕ → Funds → ℕ → Call
 account_call true bidder funds amount = Deposit bidder funds (cents amount)
@@ -73,9 +73,9 @@ account_call false bidder funds amount = Withdraw bidder funds (cents amount)
 abbrev pub account_read : Bool → List ℕ → Reading
 account_read deposit text =
     let b = number word_top text in
-    let f = choice cash_option letter_option (drop b.used text) in
+    let f = choice cash_option Cash letter_option Letter (drop b.used text) in
     let a = last_number wide_top (drop (b.used + f.used) text) in
-    plainly (present b && present f && present a) (account_call deposit b.value (funds_of f.value) a.value)
+    plainly (present b && is_found f && present a) (account_call deposit b.value f.value a.value)
 
 -- ---- pay B AMOUNT
 
@@ -134,27 +134,23 @@ short_option = 32 ∷ 83 ∷ []
 abbrev pub long_option : List ℕ
 long_option = 32 ∷ 76 ∷ []
 
--- the kind by which of the two words is present
-abbrev pub kind_chosen : ℕ → Kind
-kind_chosen n = cond (eqb n 0) Short Long
-
 -- a period of two days
 abbrev pub period_from : ℕ → ℕ → Period
 period_from first last = record { first = day_number first; last = day_number last }
 
 -- kind and period, whether they are present, and the bytes that they take
-abbrev pub opening_of : Field → Field → Field → Opening
+abbrev pub opening_of : Found Kind → Field → Field → Opening
 opening_of k f l =
     record {
-      present = present k && present f && present l;
-      kind = kind_chosen k.value;
+      present = is_found k && present f && present l;
+      kind = k.value;
       period = period_from f.value l.value;
       used = k.used + f.used + l.used;
     }
 
 unfoldable pub opening : List ℕ → Opening
 opening text =
-    let k = choice short_option long_option text in
+    let k = choice short_option Short long_option Long text in
     let f = number word_top (drop k.used text) in
     opening_of k f (number word_top (drop (k.used + f.used) text))
 
@@ -195,19 +191,19 @@ abbrev pub priced_option : List ℕ
 priced_option = 32 ∷ 112 ∷ 114 ∷ 105 ∷ 99 ∷ 101 ∷ 100 ∷ []
 
 -- the day and whether the hour has failed, whether they are present, and the bytes that they take
-abbrev pub hour_of : Field → Field → HourLine
+abbrev pub hour_of : Field → Found Bool → HourLine
 hour_of d h =
     record {
-      present = present d && present h;
+      present = present d && is_found h;
       day = day_number d.value;
-      failed = eqb h.value 0;
+      failed = h.value;
       used = d.used + h.used;
     }
 
 unfoldable pub hour_line : List ℕ → HourLine
 hour_line text =
     let d = number word_top text in
-    hour_of d (choice failed_option priced_option (drop d.used text))
+    hour_of d (choice failed_option true priced_option false (drop d.used text))
 
 -- rules 15.2 and 15.3: the line of payout, with 16 prices, for a failed hour too
 abbrev pub payout_read : ℕ → List ℕ → Reading
@@ -290,7 +286,7 @@ unfoldable pub line_read : ℕ → ℕ → List ℕ → Reading
 line_read cap most line = read_by (list_forms cap most ++ plain_forms) line
 
 -- what a line says
-abbrev pub line_said : ℕ → ℕ → List ℕ → Said
+abbrev pub line_said : ℕ → ℕ → List ℕ → Option CallLine
 line_said cap most line = said_of (line_read cap most line)
 
 -- the words of its list, also where it says nothing

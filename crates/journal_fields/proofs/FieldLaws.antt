@@ -1,8 +1,8 @@
 -- Laws about a field at a place of a line.
-use mathlib.Core.Path.{◌≡◌, refl, sym, ◌∙◌, ap}
+use mathlib.Core.Path.{◌≡◌, refl, sym, ◌∙◌, ap, subst}
 use mathlib.Core.Bool.{Bool, true, false, cond}
 use mathlib.Core.List.{List, [], ◌∷◌}
-use Prim.Native.Nat.{ℕ, ◌+◌, ◌-◌, ◌≤◌}
+use Prim.Native.Nat.{ℕ, ◌+◌, ◌≤◌}
 use native.Mathlib.Omega.{arith}
 use lib.Dec.{leb, eqb}
 use lib.ListN.{length, drop, length-drop}
@@ -12,7 +12,7 @@ use Rattle.text_numbers.specs.Decimal.{digits_in, value_from, no_leading_zero}
 use Rattle.text_fields.specs.Fields.{space, starts_with}
 use Rattle.text_fields.specs.declared.Field.{Field}
 use Rattle.text_fields.proofs.ReadLaws.{starts_fit}
-use Rattle.journal_fields.specs.JournalFields.{no_field, value_up_to, numeral, field_after, number, closing, last_number, choice}
+use Rattle.journal_fields.specs.JournalFields.{no_field, value_up_to, numeral, field_after, number}
 
 -- a word that is present at a place ends within the line
 pub word_room : (word line : List ℕ) (at : ℕ) → at ≤ length line → starts_with word (drop at line) ≡ true → at + length word ≤ length line
@@ -27,7 +27,7 @@ up-to-within limit ds = go (leb (value_from 0 ds) limit) refl
     go true e = leb-true (value_from 0 ds) limit e
     go false e = omega arith
 
-pub numeral-within : (limit : ℕ) (text : List ℕ) → (numeral limit text).value ≤ limit
+numeral-within : (limit : ℕ) (text : List ℕ) → (numeral limit text).value ≤ limit
 unfolding numeral
 numeral-within limit text = go (no_leading_zero (digits_in text))
   where
@@ -39,7 +39,7 @@ behind-within : (limit n : ℕ) (f : Field) (t : Bool) → f.value ≤ limit →
 behind-within limit n f true h = omega arith
 behind-within limit n f false h = h
 
-pub number-within : (limit : ℕ) (text : List ℕ) → (number limit text).value ≤ limit
+number-within : (limit : ℕ) (text : List ℕ) → (number limit text).value ≤ limit
 unfolding number
 number-within limit text = go (starts_with (space ∷ []) text)
   where
@@ -50,13 +50,12 @@ number-within limit text = go (starts_with (space ∷ []) text)
     go true = behind-within limit 1 (numeral limit (drop 1 text)) (eqb (numeral limit (drop 1 text)).used 0) (numeral-within limit (drop 1 text))
     go false = omega arith
 
-pub last_within : (limit : ℕ) (text : List ℕ) → (last_number limit text).value ≤ limit
-unfolding last_number
-last_within limit text = go (eqb (number limit text).used (length text))
-  where
-    go : (t : Bool) → (cond t (number limit text) no_field).value ≤ limit
-    go true = number-within limit text
-    go false = omega arith
+module _ (limit : ℕ) (text : List ℕ) (f : Field) where
+  pub numeral-kept : f ≡ numeral limit text → f.value ≤ limit
+  numeral-kept e = subst (λ (x : Field). x.value ≤ limit) (sym e) (numeral-within limit text)
+
+  pub number-kept : f ≡ number limit text → f.value ≤ limit
+  number-kept e = subst (λ (x : Field). x.value ≤ limit) (sym e) (number-within limit text)
 
 -- ---- A field at a place
 module _ (line : List ℕ) (at : ℕ) where
@@ -82,35 +81,3 @@ module _ (line : List ℕ) (at : ℕ) where
       pub number-here : (f.used ≡ 0 → ⊥) → ◌≡◌ {A = Field} (record { value = f.value; used = 1 + f.used }) (number limit here)
       number-here z =
           sym (same ∙ ap (λ (t : Bool). cond t no_field (record { value = f.value; used = 1 + f.used })) (ne_eqb f.used 0 z))
-
-    module _ (h : at ≤ length line) (f : Field) (e : f ≡ number limit here) where
-      pub last-open : (f.used ≡ length line - at → ⊥) → no_field ≡ last_number limit here
-      unfolding last_number
-      last-open other =
-          sym (ap (closing here) (sym e)
-          ∙ ap (λ (t : Bool). cond t f no_field) (ne_eqb f.used (length here) (λ q. other (q ∙ length-drop at line))))
-
-      pub last-here : f.used ≡ length line - at → f ≡ last_number limit here
-      unfolding last_number
-      last-here q =
-          sym (ap (closing here) (sym e)
-          ∙ ap (λ (t : Bool). cond t f no_field) (eq-eqb f.used (length here) (q ∙ sym (length-drop at line))))
-
-  module _ (first second : List ℕ) where
-    abbrev otherwise : Bool → Field
-    otherwise t = cond t (record { value = 1; used = length second }) no_field
-
-    abbrev chosen : Bool → Field
-    chosen t = cond t (record { value = 0; used = length first }) (otherwise (starts_with second here))
-
-    pub choice-first : starts_with first here ≡ true → ◌≡◌ {A = Field} (record { value = 0; used = length first }) (choice first second here)
-    unfolding choice
-    choice-first e = ap chosen (sym e)
-
-    pub choice-second : starts_with first here ≡ false → starts_with second here ≡ true → ◌≡◌ {A = Field} (record { value = 1; used = length second }) (choice first second here)
-    unfolding choice
-    choice-second e d = ap otherwise (sym d) ∙ ap chosen (sym e)
-
-    pub choice-none : starts_with first here ≡ false → starts_with second here ≡ false → no_field ≡ choice first second here
-    unfolding choice
-    choice-none e d = ap otherwise (sym d) ∙ ap chosen (sym e)

@@ -4,7 +4,7 @@ use Rattle.std.specs.Prelude.{Bool, cond, not, List, [], ◌∷◌, ℕ, zero, s
 use Rattle.text_numbers.specs.Decimal.{digits_in, no_leading_zero, value_from}
 use Rattle.text_fields.specs.Fields.{space, word_top, starts_with}
 use Rattle.text_fields.specs.declared.Field.{Field}
-use Rattle.journal_fields.specs.declared.Price.{Price}
+use Rattle.journal_fields.specs.declared.Found.{Found}
 
 -- rule 15.3: amounts are below 2^64, and the sizes of prices below 2^63
 abbrev pub wide_top : ℕ
@@ -48,12 +48,16 @@ closing text f = cond (eqb f.used (length text)) f no_field
 unfoldable pub last_number : ℕ → List ℕ → Field
 last_number limit text = closing text (number limit text)
 
--- one of two words, each given with its space: 0 for the first and 1 for the second
-unfoldable pub choice : List ℕ → List ℕ → List ℕ → Field
-choice first second text =
+-- whether what was looked for is present
+abbrev pub is_found : {X : Type 0} → Found X → Bool
+is_found f = not (eqb f.used 0)
+
+-- one of two words, each given with its space and with what it stands for; where neither is present that is what the first stands for
+unfoldable pub choice : {X : Type 0} → List ℕ → X → List ℕ → X → List ℕ → Found X
+choice first one second other text =
     cond (starts_with first text)
-    (record { value = 0; used = length first })
-    (cond (starts_with second text) (record { value = 1; used = length second }) no_field)
+    (record { value = one; used = length first })
+    (cond (starts_with second text) (record { value = other; used = length second }) (record { value = one; used = 0 }))
 
 -- ---- Prices
 
@@ -62,18 +66,18 @@ abbrev pub minus : List ℕ
 minus = space ∷ 45 ∷ []
 
 -- a price that is not present, and one from 0 on
-abbrev pub absent_price : Price
+abbrev pub absent_price : Found ℤ
 absent_price = record { value = pos 0; used = 0 }
 
-abbrev pub price_of_field : Field → Price
+abbrev pub price_of_field : Field → Found ℤ
 price_of_field f = record { value = pos f.value; used = f.used }
 
 -- rule 15.3: minus zero is no price
-abbrev pub below_zero : Field → Price
+abbrev pub below_zero : Field → Found ℤ
 below_zero f = cond (eqb f.value 0) absent_price (record { value = neg_ℤ (pos f.value); used = 2 + f.used })
 
 -- rule 15.3: a price has a size below 2^63, and a minus sign where it is below 0
-unfoldable pub price : List ℕ → Price
+unfoldable pub price : List ℕ → Found ℤ
 price text =
     cond (starts_with minus text) (below_zero (numeral price_top (drop 2 text))) (price_of_field (number price_top text))
 

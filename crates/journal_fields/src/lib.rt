@@ -2,8 +2,9 @@
 // The result also says how many bytes the field takes, 0 where it is not present.
 #![tactic(auto)]
 
-ghost use Rattle.std.specs.Prelude.{◌≡◌, ◌+◌, ◌≤◌, length, drop};
+ghost use Rattle.std.specs.Prelude.{◌≡◌, true, false, ◌+◌, ◌≤◌, length, drop, MatchOption};
 ghost use Rattle.text_numbers.specs.Decimal.{digits_in};
+ghost use Rattle.text_fields.specs.Fields.{starts_with};
 ghost use Rattle.journal_fields.specs.JournalFields as rules;
 
 use text_fields::Field;
@@ -16,10 +17,10 @@ const ZERO: u8 = 48;
 
 const NINE: u8 = 57;
 
-// A price that was read, and the bytes that it takes.
+// What was read of a line, and the bytes that it takes, 0 where it is not present.
 #[derive(Clone, Copy)]
-pub struct Price {
-    pub value: i64,
+pub struct Found<T> {
+    pub value: T,
     pub used: usize,
 }
 
@@ -55,7 +56,7 @@ fn digits_at(line: &[u8], at: usize, limit: u64) -> Field
                 used: i - at,
             };
         }
-        let digit = (c - ZERO) as u64;
+        let digit = u64::from(c - ZERO);
         if tenth < value {
             return none;
         }
@@ -76,6 +77,7 @@ fn digits_at(line: &[u8], at: usize, limit: u64) -> Field
 pub fn numeral_at(line: &[u8], at: usize, limit: u64) -> Field
     requires { at ≤ length line.now }
     ensures field { result ≡ rules.numeral limit (drop at line.now) }
+    ensures within { result.value ≤ limit }
     ensures fits { at + result.used ≤ length line.now }
 {
     let found = digits_at(line, at, limit);
@@ -91,6 +93,7 @@ pub fn numeral_at(line: &[u8], at: usize, limit: u64) -> Field
 pub fn number_at(line: &[u8], at: usize, limit: u64) -> Field
     requires { at ≤ length line.now }
     ensures field { result ≡ rules.number limit (drop at line.now) }
+    ensures within { result.value ≤ limit }
     ensures fits { at + result.used ≤ length line.now }
 {
     let none = Field { value: 0, used: 0 };
@@ -108,9 +111,11 @@ pub fn number_at(line: &[u8], at: usize, limit: u64) -> Field
 }
 
 // The number at a place, where it ends the line.
+#[tactic(auto, unfolding(crate::specs::JournalFields::last_number))]
 pub fn last_number(line: &[u8], at: usize, limit: u64) -> Field
     requires { at ≤ length line.now }
     ensures field { result ≡ rules.last_number limit (drop at line.now) }
+    ensures within { result.value ≤ limit }
     ensures fits { at + result.used ≤ length line.now }
 {
     let found = number_at(line, at, limit);
@@ -120,23 +125,46 @@ pub fn last_number(line: &[u8], at: usize, limit: u64) -> Field
     found
 }
 
-// Which of two words is present at a place; each is given with its space.
-pub fn choice_at(line: &[u8], at: usize, first: &[u8], second: &[u8]) -> Field
+// Which of two words is present at a place, each given with its space: what the word stands for. Where neither is present the value
+// is the first word's.
+#[tactic(auto, unfolding(crate::specs::JournalFields::choice), using(crate::proofs::FieldLaws::word_room))]
+pub fn choice_at<T: Copy>(
+    line: &[u8],
+    at: usize,
+    first: &[u8],
+    one: T,
+    second: &[u8],
+    other: T,
+) -> Found<T>
     requires { at ≤ length line.now }
-    ensures field { result ≡ rules.choice first.now second.now (drop at line.now) }
+    ensures field { result ≡ rules.choice first.now one second.now other (drop at line.now) }
     ensures fits { at + result.used ≤ length line.now }
 {
     if text_fields::starts_with(line, at, first) {
-        return Field {
-            value: 0,
+        return Found {
+            value: one,
             used: first.len(),
         };
     }
     if text_fields::starts_with(line, at, second) {
-        return Field {
-            value: 1,
+        return Found {
+            value: other,
             used: second.len(),
         };
     }
-    Field { value: 0, used: 0 }
+    Found {
+        value: one,
+        used: 0,
+    }
+}
+
+// The text after a word that a line begins with.
+pub fn after_word<'a>(line: &'a [u8], word: &[u8]) -> Option<&'a [u8]>
+    ensures { MatchOption result (starts_with word.now line.now ≡ false)
+        (λ text. (starts_with word.now line.now ≡ true) × (text.now ≡ drop (length word.now) line.now)) }
+{
+    if text_fields::starts_with(line, 0, word) {
+        return Some(behind(line, word.len()));
+    }
+    None
 }

@@ -7,9 +7,9 @@ use Rattle.market.specs.declared.book.Direction.TheVariants.{Export, Import}
 use Rattle.market.specs.declared.book.Route.{Route}
 use Rattle.text_fields.specs.Fields.{word_top}
 use Rattle.text_fields.specs.declared.Field.{Field}
-use Rattle.journal_fields.specs.JournalFields.{present, number, choice, fields_said, fields_used}
+use Rattle.journal_fields.specs.declared.Found.{Found}
+use Rattle.journal_fields.specs.JournalFields.{present, is_found, number, choice, fields_said, fields_used}
 use Rattle.journal_fresh_line.specs.declared.FreshLine.{FreshLine}
-use Rattle.journal_fresh_line.specs.declared.RouteField.{RouteField}
 
 -- rule 15.2: ` X`
 abbrev pub export_option : List ℕ
@@ -19,21 +19,17 @@ export_option = 32 ∷ 88 ∷ []
 abbrev pub import_option : List ℕ
 import_option = 32 ∷ 77 ∷ []
 
--- the direction by which of the two words is present
-abbrev pub way_of : ℕ → Direction
-way_of n = cond (eqb n 0) Export Import
-
 -- a route at the front of a text, and the bytes that it takes, 0 where it is not present
-abbrev pub route_read : Field → Field → RouteField
+abbrev pub route_read : Found Direction → Field → Found Route
 route_read w z =
-    cond (present w && present z)
-    (record { route = record { direction = way_of w.value; zone = z.value }; used = w.used + z.used })
-    (record { route = no_route; used = 0 })
+    cond (is_found w && present z)
+    (record { value = record { direction = w.value; zone = z.value }; used = w.used + z.used })
+    (record { value = no_route; used = 0 })
 
 -- rules 15.2 and 15.3: a direction and then a zone below 2^32
-unfoldable pub route_at : List ℕ → RouteField
+unfoldable pub route_at : List ℕ → Found Route
 route_at text =
-    let w = choice export_option import_option text in
+    let w = choice export_option Export import_option Import text in
     route_read w (number word_top (drop w.used text))
 
 -- its bytes, and what it says
@@ -41,7 +37,7 @@ abbrev pub route_field_used : List ℕ → ℕ
 route_field_used text = (route_at text).used
 
 abbrev pub route_value : List ℕ → Route
-route_value text = (route_at text).route
+route_value text = (route_at text).value
 
 -- all routes of a text, and the bytes that they take
 abbrev pub routes_said : List ℕ → List Route

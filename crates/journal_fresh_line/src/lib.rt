@@ -5,16 +5,9 @@ ghost use Rattle.std.specs.Prelude.{◌≡◌, ◌+◌, ◌≤◌, length, drop}
 ghost use Rattle.market.specs.Books.{no_route};
 ghost use Rattle.journal_fresh_line.specs.FreshLines as rules;
 
+use journal_fields::Found;
 use market::book::{Direction, Route};
 use market::engine::Engine;
-use text_fields::Field;
-
-// A route that was read, and the bytes that it takes, 0 where it is not present.
-#[derive(Clone, Copy)]
-pub struct RouteField {
-    pub route: Route,
-    pub used: usize,
-}
 
 // What a line says: whether its routes go on to its end, how many there are, and the first of them in their slots.
 #[derive(Clone, Copy)]
@@ -22,15 +15,6 @@ pub struct FreshLine {
     pub present: bool,
     pub count: usize,
     pub routes: [Route; Engine::PATHS],
-}
-
-fn way_of(n: u64) -> Direction
-    ensures { result ≡ rules.way_of n }
-{
-    if n == 0 {
-        return Direction::Export;
-    }
-    Direction::Import
 }
 
 fn no_route() -> Route
@@ -43,22 +27,30 @@ fn no_route() -> Route
 }
 
 // The route at a place of a text.
-fn route_at(text: &[u8], at: usize) -> RouteField
+#[tactic(auto, unfolding(crate::specs::FreshLines::route_at))]
+fn route_at(text: &[u8], at: usize) -> Found<Route>
     requires { at ≤ length text.now }
     ensures route { result ≡ rules.route_at (drop at text.now) }
     ensures fits { at + result.used ≤ length text.now }
 {
-    let way = journal_fields::choice_at(text, at, b" X", b" M");
+    let way = journal_fields::choice_at(
+        text,
+        at,
+        b" X",
+        Direction::Export,
+        b" M",
+        Direction::Import,
+    );
     let zone = journal_fields::number_at(text, at + way.used, text_fields::WORD_TOP);
     if !((way.used != 0) & (zone.used != 0)) {
-        return RouteField {
-            route: no_route(),
+        return Found {
+            value: no_route(),
             used: 0,
         };
     }
-    RouteField {
-        route: Route {
-            direction: way_of(way.value),
+    Found {
+        value: Route {
+            direction: way.value,
             zone: zone.value as u32,
         },
         used: way.used + zone.used,
@@ -74,9 +66,8 @@ pub fn fresh_said(text: &[u8]) -> FreshLine
     let mut place: usize = 0;
     let mut next = route_at(text, 0);
     while next.used != 0 {
-        let route = next.route;
         if count < Engine::PATHS {
-            routes[count] = route;
+            routes[count] = next.value;
         }
         count += 1;
         place += next.used;

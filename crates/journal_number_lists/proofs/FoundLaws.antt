@@ -6,31 +6,31 @@ use Prim.Native.Nat.{ℕ}
 use lib.Dec.{eqb}
 use borrow.Author.Tests.{eqb-true, eqb-false}
 use Rattle.std.specs.Prelude.{Option, Some, None}
-use Rattle.journal_number_lists.specs.declared.Number.{Number}
+use Rattle.journal_fields.specs.declared.Found.{Found}
 use Rattle.journal_number_lists.specs.Found.{found}
 
 module _ {X : Type 0} (used : List ℕ → ℕ) (value : List ℕ → X) (text : List ℕ) where
-  abbrev here : Number X
+  abbrev here : Found X
   here = record { value = value text; used = used text }
 
   pub none-found : found used value text ≡ None → used text ≡ 0
   none-found = go (eqb (used text) 0) refl
     where
-      go : (t : Bool) → eqb (used text) 0 ≡ t → cond {A = Option (Number X)} t None (Some here) ≡ None → used text ≡ 0
+      go : (t : Bool) → eqb (used text) 0 ≡ t → cond {A = Option (Found X)} t None (Some here) ≡ None → used text ≡ 0
       go true e h = eqb-true (used text) 0 e
       go false e h = cc
 
-  pub record Read (r : Number X) : Type 0 where
+  pub record Read (r : Found X) : Type 0 where
     pub some : used text ≡ 0 → ⊥
     pub says : value text ≡ r.value
     pub bytes : used text ≡ r.used
 
-  pub some-found : (r : Number X) → found used value text ≡ Some r → Read r
+  pub some-found : (r : Found X) → found used value text ≡ Some r → Read r
   some-found r = go (eqb (used text) 0) refl
     where
       same : Some here ≡ Some r → here ≡ r
       same h = cc
 
-      go : (t : Bool) → eqb (used text) 0 ≡ t → cond {A = Option (Number X)} t None (Some here) ≡ Some r → Read r
+      go : (t : Bool) → eqb (used text) 0 ≡ t → cond {A = Option (Found X)} t None (Some here) ≡ Some r → Read r
       go true e h = absurd cc
-      go false e h = record { some = eqb-false (used text) 0 e; says = ap (λ (q : Number X). q.value) (same h); bytes = ap (λ (q : Number X). q.used) (same h) }
+      go false e h = record { some = eqb-false (used text) 0 e; says = ap (λ (q : Found X). q.value) (same h); bytes = ap (λ (q : Found X). q.used) (same h) }

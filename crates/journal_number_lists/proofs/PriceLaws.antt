@@ -4,7 +4,7 @@ use mathlib.Core.Bool.{Bool, true, false, cond}
 use mathlib.Core.List.{List}
 use Prim.Native.Nat.{ℕ, zero, suc, ◌+◌, ◌≤◌}
 use native.Mathlib.Omega.{arith}
-use lib.IntN.{pos, neg_ℤ, ◌-ℤ◌, +ℤ_idl}
+use lib.IntN.{ℤ, pos, neg_ℤ, ◌-ℤ◌, +ℤ_idl}
 use lib.ListN.{drop}
 use lib.Seq.{drop-drop}
 use mir.Syntax.{w64}
@@ -12,7 +12,7 @@ use mir.Val.{SFits}
 use borrow.Author.Tests.{eq-eqb, ne_eqb}
 use Rattle.text_fields.specs.Fields.{starts_with}
 use Rattle.text_fields.specs.declared.Field.{Field}
-use Rattle.journal_fields.specs.declared.Price.{Price}
+use Rattle.journal_fields.specs.declared.Found.{Found}
 use Rattle.journal_fields.specs.JournalFields.{numeral, number, minus, absent_price, price_of_field, below_zero, price, price_top}
 
 -- ---- A price at a place
@@ -31,7 +31,7 @@ module _ (line : List ℕ) (at : ℕ) where
     price-zero z =
         sym (below ∙ ap (λ (t : Bool). cond t absent_price (record { value = neg_ℤ (pos f.value); used = 2 + f.used })) (eq-eqb f.value 0 z))
 
-    pub price-below : (f.value ≡ 0 → ⊥) → ◌≡◌ {A = Price} (record { value = neg_ℤ (pos f.value); used = 2 + f.used }) (price here)
+    pub price-below : (f.value ≡ 0 → ⊥) → ◌≡◌ {A = Found ℤ} (record { value = neg_ℤ (pos f.value); used = 2 + f.used }) (price here)
     price-below z =
         sym (below ∙ ap (λ (t : Bool). cond t absent_price (record { value = neg_ℤ (pos f.value); used = 2 + f.used })) (ne_eqb f.value 0 z))
 

@@ -6,7 +6,7 @@ ghost use Rattle.market.specs.Books.{with_front};
 ghost use Rattle.journal_fields.specs.JournalFields as rules;
 ghost use Rattle.journal_number_lists.specs.Found.{found};
 
-use journal_fields::Price;
+use journal_fields::Found;
 
 // The largest number that fits 63 bits beside a sign.
 const PRICE_TOP: u64 = 9_223_372_036_854_775_807;
@@ -18,14 +18,7 @@ pub struct Run {
     pub used: usize,
 }
 
-// A number that is present at a place, and the bytes that it takes.
-#[derive(Clone, Copy)]
-struct Number<N> {
-    value: N,
-    used: usize,
-}
-
-// A number that a line has a list of.
+// A number of a list that ends a line.
 trait Listed: Copy {
     // The bytes that it takes at the front of a text, 0 where none is present, and what it says.
     ghost used: { List ℕ → ℕ };
@@ -33,7 +26,7 @@ trait Listed: Copy {
     ghost value: { List ℕ → Self };
 
     // The number at a place after its space.
-    fn read(line: &[u8], at: usize) -> Option<Number<Self>>
+    fn read(line: &[u8], at: usize) -> Option<Found<Self>>
         requires { at ≤ length line.now }
         ensures field { result ≡ found used value (drop at line.now) }
         ensures fits { at + used (drop at line.now) ≤ length line.now };
@@ -44,12 +37,12 @@ impl Listed for u32 {
 
     ghost value = { rules.word_value };
 
-    fn read(line: &[u8], at: usize) -> Option<Number<u32>> {
+    fn read(line: &[u8], at: usize) -> Option<Found<u32>> {
         let word = journal_fields::number_at(line, at, text_fields::WORD_TOP);
         if word.used == 0 {
             return None;
         }
-        Some(Number {
+        Some(Found {
             value: word.value as u32,
             used: word.used,
         })
@@ -61,12 +54,12 @@ impl Listed for i64 {
 
     ghost value = { rules.price_value };
 
-    fn read(line: &[u8], at: usize) -> Option<Number<i64>> {
+    fn read(line: &[u8], at: usize) -> Option<Found<i64>> {
         let price = price_at(line, at);
         if price.used == 0 {
             return None;
         }
-        Some(Number {
+        Some(Found {
             value: price.value,
             used: price.used,
         })
@@ -74,7 +67,7 @@ impl Listed for i64 {
 }
 
 // The price at a place after its space.
-fn price_at(line: &[u8], at: usize) -> Price
+fn price_at(line: &[u8], at: usize) -> Found<i64>
     requires { at ≤ length line.now }
     ensures price { result ≡ rules.price (drop at line.now) }
     ensures fits { at + result.used ≤ length line.now }
@@ -82,15 +75,15 @@ fn price_at(line: &[u8], at: usize) -> Price
     if text_fields::starts_with(line, at, b" -") {
         let size = journal_fields::numeral_at(line, at + 2, PRICE_TOP);
         if size.value == 0 {
-            return Price { value: 0, used: 0 };
+            return Found { value: 0, used: 0 };
         }
-        return Price {
+        return Found {
             value: -(size.value as i64),
             used: 2 + size.used,
         };
     }
     let found = journal_fields::number_at(line, at, PRICE_TOP);
-    Price {
+    Found {
         value: found.value as i64,
         used: found.used,
     }

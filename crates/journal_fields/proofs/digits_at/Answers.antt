@@ -48,7 +48,8 @@ pub loop-i-preserved : goal.loop-i-preserved
 loop-i-preserved c =
     let a = c.args in
     let to = c.loop-i in
-    digits_more a.line.now a.at a.limit to.i to.value to.invariant (search rules) (omega arith) (omega arith) (omega arith)
+    rw c.from-digit.ensures
+    (digits_more a.line.now a.at a.limit to.i to.value to.invariant (search rules) (omega arith) (omega arith) (omega arith))
 
 pub returns : goal.returns
 returns c =

@@ -5,17 +5,15 @@ use native.Mathlib.Omega.{arith}
 use mathlib.Core.Path.{sym, ◌∙◌}
 use mathlib.Core.List.{[], ◌∷◌}
 use Rattle.text_fields.specs.Fields.{space}
-use Rattle.journal_fields.proofs.FieldLaws.{word_room, number-absent, number-empty, number-here}
+use Rattle.journal_fields.proofs.FieldLaws.{number-kept, word_room, number-absent, number-empty, number-here}
 use Rattle.journal_fields.proofs.number_at.Goals as goal
 
 pub returns-then-not-starts_with : goal.returns-then-not-starts_with
 returns-then-not-starts_with c =
     let a = c.args in
     let word = c.starts_with in
-    record {
-      field = number-absent a.line.now a.at a.limit (sym word.ensures ∙ c.if-not-starts_with.true);
-      fits = search rules;
-    }
+    let field = number-absent a.line.now a.at a.limit (sym word.ensures ∙ c.if-not-starts_with.true) in
+    record { field = field; within = number-kept a.limit _ _ field; fits = search rules }
 
 pub numeral_at-found-requires : goal.numeral_at-found-requires
 numeral_at-found-requires c =
@@ -27,17 +25,15 @@ pub returns-then-found-eq0 : goal.returns-then-found-eq0
 returns-then-found-eq0 c =
     let a = c.args in
     let word = c.starts_with in
-    let found = c.numeral_at-found in record {
-      field = number-empty a.line.now a.at a.limit (sym word.ensures ∙ c.if-not-starts_with.false) found.result found.ensures.field (omega arith);
-      fits = search rules;
-    }
+    let found = c.numeral_at-found in
+    let field = number-empty a.line.now a.at a.limit (sym word.ensures ∙ c.if-not-starts_with.false) found.result found.ensures.field (omega arith) in
+    record { field = field; within = number-kept a.limit _ _ field; fits = search rules }
 
 pub returns : goal.returns
 returns c =
     let a = c.args in
     let word = c.starts_with in
-    let found = c.numeral_at-found in record {
-      field = number-here a.line.now a.at a.limit (sym word.ensures ∙ c.if-not-starts_with.false) found.result found.ensures.field
-          c.if-found-eq0.false;
-      fits = omega (arith, found.ensures.fits);
-    }
+    let found = c.numeral_at-found in
+    let field = number-here a.line.now a.at a.limit (sym word.ensures ∙ c.if-not-starts_with.false) found.result found.ensures.field
+    c.if-found-eq0.false in
+    record { field = field; within = number-kept a.limit _ _ field; fits = omega (arith, found.ensures.fits) }

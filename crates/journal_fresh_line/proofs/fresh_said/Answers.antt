@@ -8,7 +8,7 @@ use Rattle.journal_fresh_line.specs.FreshLines.{routes_used, routes_said, route_
 use Rattle.journal_fresh_line.specs.declared.FreshLine.{FreshLine}
 use Rattle.market.specs.Limits.{path_limit}
 use Rattle.market.specs.declared.book.Route.{Route}
-use Rattle.journal_fresh_line.specs.declared.RouteField.{RouteField}
+use Rattle.journal_fields.specs.declared.Found.{Found}
 use mathlib.Core.List.{List}
 use Prim.Native.Nat.{ℕ, ◌+◌}
 use Rattle.journal_fresh_line.proofs.SlotLaws.{SlotsTo, slots-none, slots-count, slots-bytes, slots-list, slots_set, slots-past}
@@ -28,17 +28,17 @@ loop-next-preserved c =
     let text = c.args.text.now in
     let to = c.loop-next in
     let e = to.invariant.1 in
-    let used = ap (λ (f : RouteField). f.used) e in
+    let used = ap (λ (f : Found Route). f.used) e in
     let now : List Route → Type 0 = λ (l : List Route). SlotsTo route_field_used route_value text no_slots (to.count + 1) (to.place + to.next.used) l in (
       elim c.if-count-lt-PATHS.branch [
         | then-count-lt-PATHS w ↦
             subst now (sym w.routes-is)
-            (subst (λ (f : RouteField). SlotsTo route_field_used route_value text no_slots (to.count + 1) (to.place + f.used) (set to.routes to.count f.route)) (sym e)
+            (subst (λ (f : Found Route). SlotsTo route_field_used route_value text no_slots (to.count + 1) (to.place + f.used) (set to.routes to.count f.value)) (sym e)
             (slots_set route_field_used route_value text no_slots to.count to.place to.routes to.invariant.0 (λ z. c.loop-next-test.true (used ∙ z))
             (omega (arith, to.invariant.2, used)) w.if-count-lt-PATHS.true))
         | else-count-lt-PATHS w ↦
             subst now (sym w.routes-is)
-            (subst (λ (f : RouteField). SlotsTo route_field_used route_value text no_slots (to.count + 1) (to.place + f.used) to.routes) (sym e)
+            (subst (λ (f : Found Route). SlotsTo route_field_used route_value text no_slots (to.count + 1) (to.place + f.used) to.routes) (sym e)
             (slots-past route_field_used route_value text no_slots to.count to.place to.routes to.invariant.0 (λ z. c.loop-next-test.true (used ∙ z))
             (omega (arith, to.invariant.2, used)) w.if-count-lt-PATHS.false))
       ],
@@ -62,7 +62,7 @@ pub returns : goal.returns
 returns c =
     let text = c.args.text.now in
     let to = c.loop-next in
-    let none : route_field_used (drop to.place text) ≡ 0 = omega (arith, ap (λ (f : RouteField). f.used) to.invariant.1) in
+    let none : route_field_used (drop to.place text) ≡ 0 = omega (arith, ap (λ (f : Found Route). f.used) to.invariant.1) in
     made text (slots-bytes route_field_used route_value text no_slots to.count to.place to.routes to.invariant.0 none)
     (slots-count route_field_used route_value text no_slots to.count to.place to.routes to.invariant.0 none)
     (slots-list route_field_used route_value text no_slots to.count to.place to.routes to.invariant.0 none)
