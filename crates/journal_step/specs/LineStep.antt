@@ -1,5 +1,5 @@
 -- One line of a journal, the reply to it, and the state after it (rules 15.1 to 15.7, and rule 13.40). The calls are the engine's own, by `step`.
-use Rattle.std.specs.Prelude.{Bool, true, false, cond, List, [], ◌∷◌, map, ℕ, zero, suc, ◌*◌, ltb, ℤ, length, take, drop, replicate}
+use Rattle.std.specs.Prelude.{Bool, true, false, cond, List, [], ◌∷◌, map, ℕ, zero, suc, ◌*◌, ltb, ℤ, length, take, drop, replicate, Option, Some, None}
 use Rattle.market.specs.Answers.{answer_number, form_refusal}
 use Rattle.market.specs.Books.{paths_of, offer_of}
 use Rattle.market.specs.Fresh.{fresh}
@@ -18,8 +18,7 @@ use Rattle.journal_reply.specs.declared.Told.TheVariants.{Nothing, Listed}
 use Rattle.journal_fresh_line.specs.FreshLines.{fresh_said}
 use Rattle.journal_fresh_line.specs.declared.FreshLine.{FreshLine}
 use Rattle.journal_call_line.specs.CallLine.{line_said, line_words, line_prices}
-use Rattle.journal_call_line.specs.declared.Said.{Said}
-use Rattle.journal_call_line.specs.declared.Said.TheVariants.{Faulty, Called}
+use Rattle.journal_call_line.specs.declared.CallLine.{CallLine}
 use Rattle.journal_step.specs.declared.Journal.{Journal}
 use Rattle.journal_step.specs.declared.answers.Tell.{Tell}
 use Rattle.journal_step.specs.declared.answers.Tell.TheVariants as tells
@@ -153,9 +152,9 @@ abbrev pub fresh_step : Journal → List ℕ → FreshLine → Stepped
 fresh_step j register f = cond f.present (fresh_by j register (fresh f.routes f.count)) (turned_away j register)
 
 -- rule 15.4: a line of another form is refused with 40
-abbrev pub said_step : Journal → List ℕ → Said → List ℕ → List ℤ → Stepped
-said_step j register Faulty list prices = turned_away j register
-said_step j register (Called call n m) list prices = call_step j.ready j register call list prices
+abbrev pub said_step : Journal → List ℕ → Option CallLine → List ℕ → List ℤ → Stepped
+said_step j register None list prices = turned_away j register
+said_step j register (Some l) list prices = call_step j.ready j register l.call list prices
 
 -- a line that is not that of a fresh book
 abbrev pub call_line_step : Journal → List ℕ → List ℕ → Stepped

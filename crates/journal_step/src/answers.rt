@@ -14,7 +14,7 @@ use market::book::Path;
 use market::engine::Engine;
 
 // What an answered call tells besides its number: nothing, what each path offers, what a round awards, or 32 amounts.
-#[derive(Clone, Copy)]
+#[derive(Clone, Copy, PartialEq)]
 pub enum Tell {
     Nothing,
     Offers,
@@ -33,40 +33,10 @@ pub fn tell_of(call: Call) -> Tell
     ensures { result ≡ rules.tell_by call }
 {
     match call {
-        Call::Deposit {
-            bidder: _,
-            to: _,
-            amount: _,
-        } => Tell::Nothing,
-        Call::Withdraw {
-            bidder: _,
-            from: _,
-            amount: _,
-        } => Tell::Nothing,
-        Call::Open { kind: _, period: _ } => Tell::Offers,
+        Call::Open { .. } => Tell::Offers,
         Call::Round => Tell::Awards,
-        Call::Pay {
-            bidder: _,
-            amount: _,
-        } => Tell::Nothing,
-        Call::Default { bidder: _ } => Tell::Nothing,
-        Call::Retire { day: _ } => Tell::Nothing,
-        Call::Rent { amount: _ } => Tell::Nothing,
-        Call::Payout { day: _, failed: _ } => Tell::Amounts,
-        Call::Disburse { total: _ } => Tell::Amounts,
-        Call::Recover { total: _ } => Tell::Amounts,
-    }
-}
-
-// Whether that is what a round tells.
-pub fn is_round(tell: Tell) -> bool
-    ensures { result ≡ rules.is_round tell }
-{
-    match tell {
-        Tell::Nothing => false,
-        Tell::Offers => false,
-        Tell::Awards => true,
-        Tell::Amounts => false,
+        Call::Payout { .. } | Call::Disburse { .. } | Call::Recover { .. } => Tell::Amounts,
+        _ => Tell::Nothing,
     }
 }
 
@@ -74,10 +44,7 @@ pub fn is_round(tell: Tell) -> bool
 fn within_slots(count: usize) -> usize
     ensures { result ≡ rules.within_slots count }
 {
-    if Engine::PATHS < count {
-        return Engine::PATHS;
-    }
-    count
+    count.min(Engine::PATHS)
 }
 
 // What the first `number` paths offer.

@@ -15,8 +15,8 @@ ghost use Rattle.journal_fresh_line.specs.FreshLines.{fresh_said};
 ghost use Rattle.journal_call_line.specs.CallLine.{line_words, line_prices};
 ghost use Rattle.journal_step.specs.LineStep as rules;
 
+use answers::Tell;
 use engine::calls::Call;
-use journal_call_line::Said;
 use journal_reply::Told;
 use market::answer::{Answer, Outcome, Refusal};
 use market::book::Book;
@@ -137,11 +137,10 @@ fn answer_lent(
     );
     let tell = answers::tell_of(call);
     let used = answers::put_answer(out, tell, outcome, &amounts, answers, &paths);
-    let after = outcome.book;
     Replied {
         journal: Journal {
             ready: true,
-            book: after,
+            book: outcome.book,
         },
         used,
     }
@@ -165,7 +164,7 @@ fn answer_call(
         (rules.called_by call (rules.left_by book register.old call list.now prices.now)).text }
     ensures register { register.new ≡ (rules.called_by call (rules.left_by book register.old call list.now prices.now)).register }
 {
-    if answers::is_round(answers::tell_of(call)) {
+    if answers::tell_of(call) == Tell::Awards {
         let mut bids = [0u64; Engine::BID_ANSWER_WORDS];
         let mut scratch = [0u32; Engine::SCRATCH_WORDS];
         return answer_lent(
@@ -225,8 +224,7 @@ fn answer_fresh(journal: Journal, text: &[u8], out: &mut [u8]) -> Replied
     if !said.present {
         return turn_away(journal, out);
     }
-    let routes = said.routes;
-    let outcome = Engine::fresh(routes, said.count);
+    let outcome = Engine::fresh(said.routes, said.count);
     let answer = outcome.answer;
     let none = [0u64; 1];
     let empty = &none[..0];
@@ -241,45 +239,27 @@ fn answer_fresh(journal: Journal, text: &[u8], out: &mut [u8]) -> Replied
     }
 }
 
-// A call with `count` words and `priced` prices in its lists; it is turned away where there is no book.
+// A call with its words and prices; it is turned away where there is no book.
 fn answer_ready(
     journal: Journal,
     register: &mut [u32],
     call: Call,
     words: &[u32],
-    count: usize,
     prices: &[i64],
-    priced: usize,
     out: &mut [u8],
 ) -> Replied
-    requires count_in_bounds { count ≤ length words.now }
-    requires priced_in_bounds { priced ≤ length prices.now }
-    requires reply_room_in_bounds { reply_room ≤ length out.old }
-    ensures journal { result.journal
-        ≡ (rules.call_step journal.ready journal register.old call (take count words.now)
-        (take priced prices.now)).journal }
-    ensures used { result.used
-        ≡ length
-        (rules.call_step journal.ready journal register.old call (take count words.now) (take priced prices.now)).text }
+    requires { reply_room ≤ length out.old }
+    ensures journal { result.journal ≡ (rules.call_step journal.ready journal register.old call words.now prices.now).journal }
+    ensures used { result.used ≡ length (rules.call_step journal.ready journal register.old call words.now prices.now).text }
     ensures bytes { out.new
         ≡ put_at out.old 0
-        (rules.call_step journal.ready journal register.old call (take count words.now) (take priced prices.now)).text }
-    ensures register { register.new
-        ≡ (rules.call_step journal.ready journal register.old call (take count words.now)
-        (take priced prices.now)).register }
+        (rules.call_step journal.ready journal register.old call words.now prices.now).text }
+    ensures register { register.new ≡ (rules.call_step journal.ready journal register.old call words.now prices.now).register }
 {
     if !journal.ready {
         return turn_away(journal, out);
     }
-    let book = journal.book;
-    answer_call(
-        book,
-        register,
-        call,
-        &words[..count],
-        &prices[..priced],
-        out,
-    )
+    answer_call(journal.book, register, call, words, prices, out)
 }
 
 // The line of a call.
@@ -301,13 +281,17 @@ fn answer_said(
     ensures words { words.new ≡ with_front (line_words rules.word_room zones line.now) words.old }
     ensures prices { prices.new ≡ with_front (line_prices rules.word_room zones line.now) prices.old }
 {
-    let said = journal_call_line::line_said(line, words, prices);
-    match said {
-        Said::Faulty => turn_away(journal, out),
-        Said::Called(call, count, priced) => {
-            answer_ready(journal, register, call, words, count, prices, priced, out)
-        }
-    }
+    let Some(said) = journal_call_line::line_said(line, words, prices) else {
+        return turn_away(journal, out);
+    };
+    answer_ready(
+        journal,
+        register,
+        said.call,
+        &words[..said.words],
+        &prices[..said.prices],
+        out,
+    )
 }
 
 // One line of a journal, without its byte 10: the state after it, and the reply to it at the front of the buffer. `words` and
@@ -330,8 +314,8 @@ pub fn answer_line(
     ensures words { words.new ≡ with_front (rules.own_words line.now) words.old }
     ensures prices { prices.new ≡ with_front (rules.own_prices line.now) prices.old }
 {
-    if text_fields::starts_with(line, 0, b"fresh") {
-        return answer_fresh(journal, journal_fields::behind(line, 5), out);
+    if let Some(text) = journal_fields::after_word(line, b"fresh") {
+        return answer_fresh(journal, text, out);
     }
     answer_said(journal, register, line, words, prices, out)
 }

@@ -28,8 +28,8 @@ use Rattle.engine.specs.declared.calls.Call.{Call}
 use Rattle.journal_fresh_line.specs.FreshLines.{fresh_said}
 use Rattle.journal_fresh_line.specs.declared.FreshLine.{FreshLine}
 use Rattle.journal_call_line.specs.CallLine.{line_read, line_said, line_words, line_prices}
-use Rattle.journal_call_line.specs.declared.Said.{Said}
-use Rattle.journal_call_line.specs.declared.Said.TheVariants.{Faulty, Called}
+use Rattle.std.specs.Prelude.{Option, Some, None}
+use Rattle.journal_call_line.specs.declared.CallLine.{CallLine}
 use Rattle.journal_step.specs.LineStep.{line_bytes, Stepped, word_room, turned_away, call_step, fresh_state, fresh_by, fresh_step, said_step, call_line_step, fresh_word, is_fresh, line_step}
 use Rattle.journal_step.specs.declared.Journal.{Journal}
 use Rattle.library_book.specs.BookWords.{book_size, book_words, book_in, encodes_book, FitsBook}
@@ -101,9 +101,9 @@ module _ (j : Journal) (register : List ℕ) (h : Ready j) where
       ∙ ap (λ (n : ℕ). not (eqb n 0)) (sym (step_count j.book register call _))
   of-call false e call list prices = h
 
-  of-said : (said : Said) (list : List ℕ) (prices : List ℤ) → Ready (said_step j register said list prices).journal
-  of-said Faulty list prices = h
-  of-said (Called call n m) list prices = of-call j.ready refl call list prices
+  of-said : (said : Option CallLine) (list : List ℕ) (prices : List ℤ) → Ready (said_step j register said list prices).journal
+  of-said None list prices = h
+  of-said (Some l) list prices = of-call j.ready refl l.call list prices
 
   -- and so after each line
   pub line-ready : (line : List ℕ) → Ready (line_step j register line).journal

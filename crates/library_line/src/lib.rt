@@ -39,11 +39,8 @@ pub fn run(
         &mut prices,
         out,
     );
-    let after = replied.journal;
-    let held = after.book;
-    let balance = held.account;
-    let amount = balance.0;
+    let held = replied.journal.book;
     library_book::encode::encode_book(book, held);
-    *account = amount;
+    *account = held.account.0;
     *used = replied.used;
 }

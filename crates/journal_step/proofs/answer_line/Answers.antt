@@ -5,13 +5,12 @@ use mathlib.Core.Bool.{Bool, cond}
 use Rattle.market.specs.Limits.{zones}
 use Rattle.market.specs.Books.{with_front}
 use Rattle.journal_call_line.specs.CallLine.{line_words, line_prices}
-use Rattle.journal_step.specs.LineStep.{word_room, Stepped, fresh_step, fresh_word}
+use Rattle.journal_step.specs.LineStep.{word_room, Stepped, fresh_step}
 use mathlib.Core.Path.{sym, ◌∙◌, ap}
 use mathlib.Core.List.{List, []}
 use Prim.Native.Nat.{ℕ}
 use lib.ListN.{length}
 use Rattle.text_numbers.specs.Put.{put_at}
-use Rattle.text_fields.proofs.ReadLaws.{starts_fit}
 use Rattle.journal_fresh_line.specs.FreshLines.{fresh_said}
 use Rattle.journal_step.proofs.LineLaws.{fresh-journal, fresh-text, fresh-register, line-fresh, line-said}
 use Rattle.journal_step.proofs.answer_line.Goals as goal
@@ -20,28 +19,22 @@ use Rattle.journal_step.proofs.answer_line.Goals as goal
 abbrev own : {X : Type 0} → List X → List X → Bool → List X
 own xs list t = with_front (cond t [] xs) list
 
-pub behind-requires : goal.behind-requires
-behind-requires c =
+pub returns-in-Some : goal.returns-in-Some
+returns-in-Some c =
     let a = c.args in
-    let word = c.starts_with in
-    starts_fit fresh_word a.line.now (sym word.ensures ∙ c.if-starts_with.true)
-
-pub returns-then-starts_with : goal.returns-then-starts_with
-returns-then-starts_with c =
-    let a = c.args in
-    let word = c.starts_with in
-    let rest = c.behind in
+    let word = c.in-Some.ensures in
+    let text = c.in-Some.text.now in
     let made = c.answer_fresh in
     let out = a.out.now in
-    let f = fresh_said rest.result.now in
+    let f = fresh_said text in
     let s =
-    ap (λ (l : List ℕ). fresh_step a.journal a.register.now (fresh_said l)) rest.ensures
-    ∙ line-fresh a.journal a.register.now a.line.now (sym word.ensures ∙ c.if-starts_with.true) in
-    let is = sym (sym word.ensures ∙ c.if-starts_with.true) in
-    let text = fresh-text a.journal a.register.now f in record {
+    ap (λ (l : List ℕ). fresh_step a.journal a.register.now (fresh_said l)) word.1
+    ∙ line-fresh a.journal a.register.now a.line.now word.0 in
+    let is = sym word.0 in
+    let same = fresh-text a.journal a.register.now f in record {
       journal = made.ensures.journal ∙ fresh-journal a.journal a.register.now f ∙ ap (λ (x : Stepped). x.journal) s;
-      used = made.ensures.used ∙ ap length text ∙ ap (λ (x : Stepped). length x.text) s;
-      bytes = made.ensures.bytes ∙ ap (put_at out 0) text ∙ ap (λ (x : Stepped). put_at out 0 x.text) s;
+      used = made.ensures.used ∙ ap length same ∙ ap (λ (x : Stepped). length x.text) s;
+      bytes = made.ensures.bytes ∙ ap (put_at out 0) same ∙ ap (λ (x : Stepped). put_at out 0 x.text) s;
       register = fresh-register a.journal a.register.now f ∙ ap (λ (x : Stepped). x.register) s;
       words = ap (own (line_words word_room zones a.line.now) a.words.now) is;
       prices = ap (own
@@ -51,11 +44,11 @@ returns-then-starts_with c =
 pub returns : goal.returns
 returns c =
     let a = c.args in
-    let word = c.starts_with in
+    let none = c.in_default.ensures in
     let done = c.answer_said in
-    let is = sym (sym word.ensures ∙ c.if-starts_with.false) in
+    let is = sym none in
     let s =
-    line-said a.journal a.register.now a.line.now (sym word.ensures ∙ c.if-starts_with.false) in record {
+    line-said a.journal a.register.now a.line.now none in record {
       journal = done.ensures.journal ∙ ap (λ (x : Stepped). x.journal) s;
       used = done.ensures.used ∙ ap (λ (x : Stepped). length x.text) s;
       bytes = done.ensures.bytes ∙ ap (λ (x : Stepped). put_at a.out.now 0 x.text) s;
