@@ -47,14 +47,11 @@ pub fn opened_paths(
     requires book_in_bounds { words_needed book ≤ length quantities.now }
     ensures { result ≡ opened_paths kind period (counted_entries book words.now) quantities.now book.paths book.path_count }
 {
-    let slots = book.paths;
-    let count = book.path_count;
-    let out = register_entries::outstanding(words, book.entries, count, period);
-    let mut paths = slots;
-    for i in 0..count {
+    let out = register_entries::outstanding(words, book.entries, book.path_count, period);
+    let mut paths = book.paths;
+    for i in 0..book.path_count {
         let of = quantities_at(quantities, i);
-        let path = opened_path(slots[i], kind, of, out[i]);
-        paths[i] = path;
+        paths[i] = opened_path(book.paths[i], kind, of, out[i]);
     }
     paths
 }

@@ -60,7 +60,9 @@ road {A} (y ∷ ys) =
     (λ j e. cc, λ x j e. (cc, subst (λ (s : List A). AlwaysYields list_steps (λ (z : A). z) s ys) {x = ys} {y = j} (cc) (road ys)))
 
 -- a closure that may be called at each element of a list may be called at each in turn
-pub callable : {A F B : Type 0} (g : Mut F (A × Unit {0}) B) (made : F) (xs : List A) → ((x : A) (y : B) (q : F) → Called g made (x, tt) y q → q ≡ made) → ((x : A) (k : ℕ) → k < length xs → x ≡ get_or xs k x → Takes g made (x, tt))
+pub callable :
+    {A F B : Type 0} (g : Mut F (A × Unit {0}) B) (made : F) (xs : List A) → ((x : A) (y : B) (q : F) → Called g made (x, tt) y q → q ≡ made)
+    → ((x : A) (k : ℕ) → k < length xs → x ≡ get_or xs k x → Takes g made (x, tt))
     → CallableAtEachTurn list_steps (λ p x q. (y : B) × Called g p (x, tt) y q) (λ p x. Takes g p (x, tt)) xs made
 callable g made xs same may = serves_from_places (record { runs = road xs }) (λ x q h. same x h.0 q h.1) may
 

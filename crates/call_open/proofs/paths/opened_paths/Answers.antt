@@ -1,9 +1,8 @@
-use mathlib.Core.Path.{◌≡◌, refl, sym, ◌∙◌, ap, ap₂}
+use mathlib.Core.Path.{◌≡◌, sym, ◌∙◌, ap, ap₂}
 use mathlib.Core.List.{List}
 use Prim.Native.Nat.{ℕ, ◌+◌, ◌*◌, ◌≤◌, ◌<◌}
 use native.Mathlib.Omega.{arith}
 use lib.ListN.{length, get_or, set}
-use borrow.Author.Rules.{rules}
 use Rattle.market.proofs.KindLaws.{megawatts-at}
 use Rattle.market.specs.Books.{in_megawatts, no_path}
 use Rattle.market.specs.Limits.{path_limit, quantity_words}
@@ -15,9 +14,6 @@ use Rattle.call_open.proofs.PathLaws.{paths-within, opened_by, more-opened, open
 use Rattle.call_open.specs.OpenedPaths.{offering}
 use Rattle.call_open.proofs.paths.opened_paths.Goals.{In-loop-i}
 use Rattle.call_open.proofs.paths.opened_paths.Goals as goal
-
-pub loop-i-init : goal.loop-i-init
-loop-i-init c = (search rules, refl)
 
 pub outstanding-out-requires : goal.outstanding-out-requires
 outstanding-out-requires c =
@@ -44,12 +40,10 @@ loop-i-preserved c =
     let out = c.outstanding-out.result in
     let slots = a.book.paths in
     let made =
-    c.opened_path-path.ensures
+    c.opened_path.ensures
     ∙ ap₂ (λ (of : Quantities) (n : ℕ). offering (get_or slots at.i no_path) (auction_offer a.kind of n)) c.quantities_at-of.ensures (sym (megawatts-at out at.i))
-    in (
-      search rules,
-      ap₂ (λ (l : List Path) (x : Path). set l at.i x) at.invariant.1 made ∙ sym (more-opened a.kind a.quantities.now (in_megawatts out) slots at.i),
-    )
+    in
+    ap₂ (λ (l : List Path) (x : Path). set l at.i x) at.invariant made ∙ sym (more-opened a.kind a.quantities.now (in_megawatts out) slots at.i)
 
 pub returns : goal.returns
 returns c =
@@ -57,18 +51,18 @@ returns c =
     let at = c.loop-i in
     let out = c.outstanding-out in
     let all : at.i ≡ a.book.path_count = omega arith in
-    at.invariant.1
+    at.invariant
     ∙ ap (opened_by a.kind a.quantities.now (in_megawatts out.result) a.book.paths) all
     ∙ opened-same a.kind a.period (counted_entries a.book a.words.now) a.quantities.now (in_megawatts out.result) a.book.paths out.ensures a.book.path_count
 
 pub quantities_at-of-requires : goal.quantities_at-of-requires
 quantities_at-of-requires c = asked (goal.at.quantities_at-of-requires c).In-loop-i
 
-pub offset_bounds-slots-i : goal.offset_bounds-slots-i
-offset_bounds-slots-i c = record { fits = omega (arith, inside (goal.at.offset_bounds-slots-i c).In-loop-i) }
+pub offset_bounds-book-i : goal.offset_bounds-book-i
+offset_bounds-book-i c = record { fits = omega (arith, inside (goal.at.offset_bounds-book-i c).In-loop-i) }
 
-pub bounds-slots-i : goal.bounds-slots-i
-bounds-slots-i c = inside (goal.at.bounds-slots-i c).In-loop-i
+pub bounds-book-i : goal.bounds-book-i
+bounds-book-i c = inside (goal.at.bounds-book-i c).In-loop-i
 
 pub offset_bounds-out-i : goal.offset_bounds-out-i
 offset_bounds-out-i c = record { fits = omega (arith, inside (goal.at.offset_bounds-out-i c).In-loop-i) }
