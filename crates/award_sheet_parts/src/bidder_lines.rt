@@ -11,12 +11,14 @@ fn put_bidder_line(out: &mut [u8], at: usize, number: u32, bidder: Bidder) -> us
     requires { at + length (award_bidder_line number bidder) ≤ length out.old }
     ensures { Put out.old at (award_bidder_line number bidder) out.new result }
 {
-    let cash = bidder.cash;
-    let applied = bidder.applied;
-    let letter = bidder.letter;
-    let hold = bidder.hold;
-    let owed = bidder.owed;
-    let row = [number as u64, cash.0, applied.0, letter.0, hold.0, owed.0];
+    let row = [
+        number as u64,
+        bidder.cash.0,
+        bidder.applied.0,
+        bidder.letter.0,
+        bidder.hold.0,
+        bidder.owed.0,
+    ];
     text_writing::put_numbers(out, at, &row, text_fields::NEWLINE)
 }
 
@@ -27,9 +29,8 @@ fn put_bidder_lines(out: &mut [u8], at: usize, book: Book, listed: &[u32]) -> us
     ensures { Put out.old at (award_bidder_lines book listed.now) out.new result }
 {
     let mut end = at;
-    for i in 0..listed.len() {
-        let number = listed[i];
-        end = put_bidder_line(out, end, number, book_parts::bidder(book, number));
+    for number in listed {
+        end = put_bidder_line(out, end, *number, book_parts::bidder(book, *number));
     }
     end
 }

@@ -22,8 +22,8 @@ fn put_spaced(out: &mut [u8], at: usize, numbers: &[u64]) -> usize
     ensures { Put out.old at (spaced_numbers numbers.now) out.new result }
 {
     let mut place = at;
-    for i in 0..numbers.len() {
-        place = put_behind_space(out, place, numbers[i]);
+    for n in numbers {
+        place = put_behind_space(out, place, *n);
     }
     place
 }

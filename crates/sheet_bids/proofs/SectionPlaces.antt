@@ -3,8 +3,8 @@ use mathlib.Core.Path.{◌≡◌, sym, ◌∙◌, ap}
 use mathlib.Core.List.{List}
 use Prim.Native.Nat.{ℕ, ◌-◌, ◌≤◌}
 use native.Mathlib.Omega.{arith}
-use lib.ListN.{length, take, drop, length-drop}
-use lib.Seq.{drop-drop, take_all}
+use lib.ListN.{take, drop}
+use lib.Seq.{drop-drop}
 use Rattle.sheet_lines.specs.Lines.{title_used}
 use Rattle.sheet_lines.specs.declared.part.Part.TheVariants.{Paths, Bids}
 use Rattle.sheet_form.specs.Form.{section_at, PlacesAre}
@@ -34,7 +34,3 @@ module _ (bytes : List ℕ) (found : Found) (p : PlacesAre bytes (title_used byt
       ap (λ (n : ℕ). drop n bytes) p.second
       ∙ sym (drop-drop (section_at Bids (drop found.first bytes)).used found.first bytes)
       ∙ ap (after_part Bids) rounds-place
-
--- all the text from a place on
-pub rest-whole : (bytes : List ℕ) (n : ℕ) → take (length bytes - n) (drop n bytes) ≡ drop n bytes
-rest-whole bytes n = take_all (length bytes - n) (drop n bytes) (omega (arith, length-drop n bytes))

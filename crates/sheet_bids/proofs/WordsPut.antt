@@ -6,13 +6,11 @@ use Prim.Native.Nat.{ℕ, suc, ◌+◌, ◌-◌, ◌≤◌, ◌<◌}
 use native.Mathlib.Omega.{arith}
 use lib.ListN.{length, get_or, set, drop, length-append, length-drop, length-set, drop_of_length-le}
 use lib.Seq.{drop-cons, drop-drop, set_at}
-use borrow.Author.Tests.{le-leb, lt-leb}
 use Rattle.text_numbers.proofs.DecimalLaws.{digits-split}
 use Rattle.text_numbers.proofs.PutLaws.{put-none}
 use Rattle.text_numbers.specs.Put.{put_at}
 use Rattle.text_numbers.specs.Decimal.{digits_in, right_digits, number_at}
 use Rattle.text_numbers.specs.declared.Number.{Number}
-use Rattle.text_fields.specs.Fields.{word_top}
 use Rattle.sheet_lines.specs.Lines.{count_used}
 use Rattle.sheet_lines.specs.declared.part.Part.TheVariants.{Bids}
 use Rattle.sheet_form.specs.Words.{word_of, numbers_in, section_words}
@@ -31,12 +29,6 @@ digits-within text = go (right_digits ds)
 
 pub near-end : (text : List ℕ) (number : Number) → number ≡ number_at text → number.digits ≤ length text
 near-end text number is = subst (λ (r : Number). r.digits ≤ length text) (sym is) (digits-within text)
-
-pub short-word : (n : ℕ) → n ≤ word_top → n ≡ word_of n
-short-word n most = sym (ap (λ (t : Bool). cond t n 0) (le-leb n word_top most))
-
-pub long-word : (n : ℕ) → word_top < n → 0 ≡ word_of n
-long-word n more = sym (ap (λ (t : Bool). cond t n 0) (lt-leb n word_top more))
 
 -- ---- Words put one by one, as `words_of` does
 

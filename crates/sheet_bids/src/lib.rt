@@ -19,9 +19,7 @@ pub fn first_bids(bytes: &[u8], found: Found) -> &[u8]
     ensures place { result.now ≡ take (found.second - found.first) (drop found.first bytes.now) }
     ensures section { result.now ≡ part_at Bids (at_rounds bytes.now) }
 {
-    let from = found.first;
-    let to = found.second;
-    &bytes[from..to]
+    &bytes[found.first..found.second]
 }
 
 // What comes after it: the second bid section of a long auction.
@@ -30,18 +28,14 @@ pub fn second_bids(bytes: &[u8], found: Found) -> &[u8]
     ensures place { result.now ≡ drop found.second bytes.now }
     ensures section { result.now ≡ after_part Bids (at_rounds bytes.now) }
 {
-    let from = found.second;
-    &bytes[from..]
+    &bytes[found.second..]
 }
 
 // A number as a word: 0 if it does not fit.
 fn word_of(value: u64) -> u32
     ensures { result ≡ word_of value }
 {
-    if value <= text_fields::WORD_TOP {
-        return value as u32;
-    }
-    0
+    u32::try_from(value).unwrap_or(0)
 }
 
 // Writes the words of a bid section to the front of a list, and returns how many there are.

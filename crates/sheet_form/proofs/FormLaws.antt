@@ -8,6 +8,7 @@ use lib.Dec.{leb, eqb}
 use lib.ListN.{length, drop, get_or, replicate, length-drop}
 use lib.Seq.{drop-drop}
 use borrow.Author.Tests.{le-leb, lt-leb, eqb-true, eqb-false, eq-eqb, ne_eqb}
+use Rattle.std.specs.Prelude.{Err}
 use Rattle.market.specs.Limits.{bidder_limit, sheet_bytes}
 use Rattle.market.specs.declared.book.Kind.{Kind}
 use Rattle.market.specs.declared.book.Kind.TheVariants.{Short, Long}
@@ -17,12 +18,11 @@ use Rattle.sheet_lines.specs.Lines.{title_word, kind_byte, is_kind, long_if, kin
 use Rattle.sheet_lines.specs.declared.part.Part.{Part}
 use Rattle.sheet_lines.specs.declared.part.Part.TheVariants.{Bidders, Paths, Bids}
 use Rattle.sheet_lines.specs.declared.part.Step.{Step}
-use Rattle.sheet_form.specs.Form.{line_then, lines_at, section_at, section_whole, parts_of, if_whole, form_from, sheet_kind, form_of, IfRight}
+use Rattle.sheet_form.specs.Form.{Form, well_formed, faulty_at, line_then, lines_at, section_at, section_whole, parts_of, if_whole, form_from, sheet_kind, form_of, SectionIs, FaultIn}
 use Rattle.sheet_form.specs.Sheet.{rounds_of}
-use Rattle.sheet_form.specs.declared.form.Form.{Form}
-use Rattle.sheet_form.specs.declared.form.Form.TheVariants.{Right, Faulty}
 use Rattle.sheet_form.specs.declared.form.Read.{Read}
-use Rattle.sheet_form.specs.declared.form.Section.{Section}
+use Rattle.sheet_form.specs.declared.form.FaultyLine.{FaultyLine}
+use Rattle.sheet_form.specs.declared.place.Place.{Place}
 use Rattle.sheet_form.proofs.LineLaws.{behind-read}
 use Rattle.sheet_form.proofs.SectionLaws.{then_some}
 
@@ -158,61 +158,48 @@ module _ (part : Part) (bytes : List ℕ) (at used value : ℕ) (taken : used �
 
 -- ---- The end
 
-pub at-end : (bytes : List ℕ) (at line : ℕ) → at ≡ length bytes → Right ≡ form_from [] line (drop at bytes)
+pub at-end : (bytes : List ℕ) (at line : ℕ) → at ≡ length bytes → well_formed ≡ form_from [] line (drop at bytes)
 at-end bytes at line end =
     sym
-    (ap (λ (t : Bool). if_whole t line Right)
+    (ap (λ (t : Bool). if_whole t line well_formed)
     (eq-eqb (length (drop at bytes)) 0 (length-drop at bytes ∙ (let e : length bytes - at ≡ 0 = omega (arith, end) in e))))
 
-pub before-end : (bytes : List ℕ) (at line : ℕ) → at ≤ length bytes → (at ≡ length bytes → ⊥) → Faulty line ≡ form_from [] line (drop at bytes)
+pub before-end : (bytes : List ℕ) (at line : ℕ) → at ≤ length bytes → (at ≡ length bytes → ⊥) → faulty_at line ≡ form_from [] line (drop at bytes)
 before-end bytes at line inside other =
     sym
-    (ap (λ (t : Bool). if_whole t line Right)
+    (ap (λ (t : Bool). if_whole t line well_formed)
     (ne_eqb (length (drop at bytes)) 0 (λ (none : length (drop at bytes) ≡ 0). other (let e : at ≡ length bytes = omega (arith, length-drop at bytes, none) in e))))
 
 -- ---- A section before others
 
-module _ (part : Part) (parts : List Part) (bytes : List ℕ) (at line : ℕ) (found : Section) (present : found.present ≡ section_whole part (drop at bytes))
-    (lines : found.lines ≡ (section_at part (drop at bytes)).lines) where
-  -- a line of it is faulty: the form is the first such line
-  pub form-faulty : found.present ≡ false → Faulty (line + found.lines) ≡ form_from (part ∷ parts) line (drop at bytes)
-  form-faulty fails =
-      let next = line + (section_at part (drop at bytes)).lines in
-      ap (λ (n : ℕ). let f : Form = Faulty (line + n) in f) lines
-      ∙ ap (λ (t : Bool). if_whole t next (form_from parts next (drop (section_at part (drop at bytes)).used (drop at bytes)))) (sym fails ∙ present)
+-- a line of it is faulty: the form is the first such line
+pub form-faulty : {part : Part} {bytes : List ℕ} {from : Place} {fault : FaultyLine} (parts : List Part) → FaultIn part bytes from fault → Err fault ≡ form_from (part ∷ parts) from.line (drop from.at bytes)
+form-faulty {part} {bytes} {from} parts is =
+    let text = drop from.at bytes in
+    let next = from.line + (section_at part text).lines in
+    ap faulty_at is.line
+    ∙ ap (λ (t : Bool). if_whole t next (form_from parts next (drop (section_at part text).used text))) (sym is.whole)
 
-  -- all its lines are right: the form is that of what follows
-  pub form-on :
-      (form :
-      Form) → found.used ≡ (section_at part (drop at bytes)).used → found.present ≡ true → form ≡ form_from parts (line + found.lines) (drop (at + found.used) bytes)
-      → form ≡ form_from (part ∷ parts) line (drop at bytes)
-  form-on form used good is =
-      let next = line + (section_at part (drop at bytes)).lines in
-      is
-      ∙ ap₂ (λ (n : ℕ) (l : List ℕ). form_from parts (line + n) l) lines
-      (sym (drop-drop found.used at bytes) ∙ ap (λ (n : ℕ). drop n (drop at bytes)) used)
-      ∙ ap (λ (t : Bool). if_whole t next (form_from parts next (drop (section_at part (drop at bytes)).used (drop at bytes)))) (sym good ∙ present)
-
--- the sections of bids after the first
-abbrev pub later_rounds : Kind → List Part
-later_rounds Short = []
-later_rounds Long = Bids ∷ []
-
-pub rounds-are : (kind : Kind) → Bids ∷ later_rounds kind ≡ replicate (rounds_of kind) Bids
-rounds-are Short = refl
-rounds-are Long = refl
-
-pub if-right : (form : Form) {fact : Type 0} → fact → IfRight form fact
-if-right Right h = h
-if-right (Faulty line) h = tt
-
-pub if-faulty : (form : Form) (line : ℕ) (fact : Type 0) → form ≡ Faulty line → IfRight form fact
-if-faulty form line fact is = subst (λ (f : Form). IfRight f fact) (sym is) tt
+-- all its lines are right: the form is that of what follows
+pub form-on : {part : Part} {bytes : List ℕ} {from next : Place} (parts : List Part) → SectionIs part bytes from next → form_from parts next.line (drop next.at bytes) ≡ form_from (part ∷ parts) from.line (drop from.at bytes)
+form-on {part} {bytes} {from} parts is =
+    let text = drop from.at bytes in
+    let next = from.line + (section_at part text).lines in
+    ap₂ (form_from parts) is.line (ap (λ (n : ℕ). drop n bytes) is.place ∙ sym (drop-drop (section_at part text).used from.at bytes))
+    ∙ ap (λ (t : Bool). if_whole t next (form_from parts next (drop (section_at part text).used text))) (sym is.whole)
 
 -- the sections of a sheet of this kind: bidders, paths, and those of bids
 pub parts-of : (kind : Kind) → Bidders ∷ Paths ∷ replicate (rounds_of kind) Bids ≡ parts_of kind
 parts-of Short = refl
 parts-of Long = refl
+
+-- bidders and paths that are right, and then the sections of bids
+pub form-sections :
+    {bytes : List ℕ} {from paths first : Place} {form : Form} (kind : Kind) → SectionIs Bidders bytes from paths → SectionIs Paths bytes paths first
+    → form ≡ form_from (replicate (rounds_of kind) Bids) first.line (drop first.at bytes) → form ≡ form_from (parts_of kind) from.line (drop from.at bytes)
+form-sections {bytes} {from} kind bidders paths is =
+    let rounds = replicate (rounds_of kind) Bids in
+    is ∙ form-on rounds paths ∙ form-on (Paths ∷ rounds) bidders ∙ ap (λ (parts : List Part). form_from parts from.line (drop from.at bytes)) (parts-of kind)
 
 -- ---- The whole
 
@@ -235,11 +222,11 @@ module _ (bytes : List ℕ) where
   abbrev titled : Form
   titled = if_whole (leb 1 (title_used bytes)) 1 (form_from (parts_of (sheet_kind bytes)) 2 (drop (title_used bytes) bytes))
 
-  pub too_long : sheet_bytes < length bytes → Faulty 0 ≡ form_of bytes
+  pub too_long : sheet_bytes < length bytes → faulty_at 0 ≡ form_of bytes
   unfolding form_of
   too_long long = sym (ap (λ (t : Bool). if_whole t 0 titled) (lt-leb (length bytes) sheet_bytes long))
 
-  pub no-title : length bytes ≤ sheet_bytes → title_used bytes ≡ 0 → Faulty 1 ≡ form_of bytes
+  pub no-title : length bytes ≤ sheet_bytes → title_used bytes ≡ 0 → faulty_at 1 ≡ form_of bytes
   unfolding form_of
   no-title short none =
       sym

@@ -19,9 +19,8 @@ use Rattle.text_fields.specs.Fields.{word_top}
 use Rattle.sheet_lines.specs.Lines.{title_used, count_used, count_said, line_at}
 use Rattle.sheet_lines.specs.declared.part.Part.{Part}
 use Rattle.sheet_lines.specs.declared.part.Part.TheVariants.{Bidders, Bids}
-use Rattle.sheet_form.specs.declared.form.Form.TheVariants.{Right}
 use Rattle.sheet_form.specs.declared.rows.BidderLine.{BidderLine}
-use Rattle.sheet_form.specs.Form.{section_at, section_whole, form_from, sheet_kind, form_of}
+use Rattle.sheet_form.specs.Form.{well_formed, section_at, section_whole, form_from, sheet_kind, form_of}
 use Rattle.sheet_form.specs.Reading.{lines_in, bidder_line_at, bid_in, section_says, part_at, after_part, at_bidders, at_rounds}
 use Rattle.sheet_form.specs.Sheet.{rounds_of, bid_section, fits_amount, right_bidders, right_section}
 use Rattle.sheet_form.specs.Words.{section_words}
@@ -98,7 +97,7 @@ whole_part text none = take_all (section_at Bids text).used text none
     take_all (suc n) (c ∷ l) h = ap (λ (rest : List ℕ). c ∷ rest) (take_all n l h)
 
 -- the first section of bids is right, and so is the second of a long auction, with nothing after it
-first-stands : (kind : Kind) (line : ℕ) (text : List ℕ) → form_from (replicate (rounds_of kind) Bids) line text ≡ Right → section_whole Bids text ≡ true
+first-stands : (kind : Kind) (line : ℕ) (text : List ℕ) → form_from (replicate (rounds_of kind) Bids) line text ≡ well_formed → section_whole Bids text ≡ true
 first-stands Short line text h =
     let next = line + (section_at Bids text).lines in
     (stands-right (section_whole Bids text) next (form_from [] next (after_part Bids text)) h).0
@@ -107,7 +106,7 @@ first-stands Long line text h =
     (stands-right (section_whole Bids text) next (form_from (Bids ∷ []) next (after_part Bids text)) h).0
 
 second-stands :
-    (line : ℕ) (text : List ℕ) → form_from (replicate (rounds_of Long) Bids) line text ≡ Right
+    (line : ℕ) (text : List ℕ) → form_from (replicate (rounds_of Long) Bids) line text ≡ well_formed
     → (section_whole Bids (after_part Bids text) ≡ true) × (length (after_part Bids (after_part Bids text)) ≡ 0)
 second-stands line text h =
     let later = after_part Bids text in
@@ -116,11 +115,11 @@ second-stands line text h =
     let rest = after_part Bids later in
     let one = stands-right (section_whole Bids text) next (form_from (Bids ∷ []) next later) h in
     let two = stands-right (section_whole Bids later) end (form_from [] end rest) one.1 in
-    (two.0, eqb-true (length rest) 0 (stands-right (eqb (length rest) 0) end Right two.1).0)
+    (two.0, eqb-true (length rest) 0 (stands-right (eqb (length rest) 0) end well_formed two.1).0)
 
 -- ---- The sheet
 
-module _ (text : List ℕ) (form : form_of text ≡ Right) where
+module _ (text : List ℕ) (form : form_of text ≡ well_formed) where
   pub title-some : 1 ≤ title_used text
   title-some = leb-true 1 (title_used text) (inner text form).0
 

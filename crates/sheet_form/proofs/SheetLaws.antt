@@ -8,6 +8,7 @@ use lib.Dec.{leb, ltb, eqb}
 use lib.ListN.{length, get_or, drop, replicate}
 use lib.Seq.{drop-append_seam}
 use borrow.Author.Tests.{leb-true, le-leb, ltb-true, eqb-true, eq-eqb}
+use Rattle.std.specs.Prelude.{Ok, Err}
 use Rattle.market.proofs.Tests.{left-true, right-true}
 use Rattle.market.specs.Books.{every}
 use Rattle.market.specs.Limits.{bidder_limit, sheet_bytes}
@@ -19,14 +20,12 @@ use Rattle.text_fields.specs.Fields.{count_line, word_top}
 use Rattle.sheet_lines.specs.Lines.{title_used, part_word, line_at}
 use Rattle.sheet_lines.specs.declared.part.Part.{Part}
 use Rattle.sheet_lines.specs.declared.part.Part.TheVariants.{Bidders, Paths, Bids}
-use Rattle.sheet_form.specs.Form.{section_at, section_whole, parts_of, if_whole, form_from, sheet_kind, form_of}
+use Rattle.sheet_form.specs.Form.{Form, well_formed, section_at, section_whole, parts_of, if_whole, form_from, sheet_kind, form_of}
 use Rattle.sheet_form.specs.Reading.{bidder_line_at, path_line_at, bid_in, section_says, after_part, rounds_at, at_bidders, at_paths, at_rounds, days_in, sheet_in}
 use Rattle.sheet_form.specs.declared.rows.BidderLine.{BidderLine}
 use Rattle.sheet_form.specs.declared.rows.PathLine.{PathLine}
 use Rattle.sheet_form.specs.Sheet.{Sheet, rounds_of, title_line, bidder_lines, path_lines, bid_section, bid_sections, sheet_text}
 use Rattle.sheet_form.specs.Sheet.{fits_word, fits_amount, right_bidders, right_path, right_bid, right_section, right_sheet}
-use Rattle.sheet_form.specs.declared.form.Form.{Form}
-use Rattle.sheet_form.specs.declared.form.Form.TheVariants.{Right, Faulty}
 use Rattle.sheet_form.specs.declared.form.Read.{Read}
 use Rattle.sheet_form.proofs.CountedLaws.{section_text, SectionRead, section-written, section-stands, section-again, section-read}
 use Rattle.sheet_form.proofs.LineLaws.{right_bidder}
@@ -38,11 +37,11 @@ use Rattle.sheet_form.proofs.TitleLaws.{title_text, title-some, title-kind, titl
 -- ---- Form
 
 abbrev is_right : Form → Bool
-is_right Right = true
-is_right (Faulty line) = false
+is_right (Ok found) = true
+is_right (Err line) = false
 
 -- if the form is right, then the test was true and the rest is right
-pub stands-right : (t : Bool) (line : ℕ) (rest : Form) → if_whole t line rest ≡ Right → (t ≡ true) × (rest ≡ Right)
+pub stands-right : (t : Bool) (line : ℕ) (rest : Form) → if_whole t line rest ≡ well_formed → (t ≡ true) × (rest ≡ well_formed)
 stands-right true line rest h = (refl, h)
 stands-right false line rest h = absurd (false≢true (ap is_right h))
 
@@ -70,8 +69,8 @@ behind-placed part read w rest xs p = ap (λ (n : ℕ). drop n (w ++ rest)) p.us
 
 form-more :
     {X :
-    Type 0} (part : Part) (read : List ℕ → X) (w rest : List ℕ) (xs : List X) → Placed part read w rest xs → (parts : List Part) → ((line : ℕ) → form_from parts line rest ≡ Right) → (line : ℕ)
-    → form_from (part ∷ parts) line (w ++ rest) ≡ Right
+    Type 0} (part : Part) (read : List ℕ → X) (w rest : List ℕ) (xs : List X) → Placed part read w rest xs → (parts : List Part) → ((line : ℕ) → form_from parts line rest ≡ well_formed) → (line : ℕ)
+    → form_from (part ∷ parts) line (w ++ rest) ≡ well_formed
 form-more part read w rest xs p parts more line =
     let next = line + (section_at part (w ++ rest)).lines in
     ap (λ (t : Bool). if_whole t next (form_from parts next (after_part part (w ++ rest)))) p.present
@@ -103,7 +102,7 @@ round-placed bids rest right =
     (bids-right bids 0 ∙ right-true (fits_word (length bids)) (every right_bid bids) right)
     (leb-true (length bids) word_top (left-true (fits_word (length bids)) (every right_bid bids) right)))
 
-rounds-form : (rounds : List (List Bid)) → every right_section rounds ≡ true → (line : ℕ) → form_from (replicate (length rounds) Bids) line (bid_sections rounds) ≡ Right
+rounds-form : (rounds : List (List Bid)) → every right_section rounds ≡ true → (line : ℕ) → form_from (replicate (length rounds) Bids) line (bid_sections rounds) ≡ well_formed
 rounds-form [] right line = refl
 rounds-form (bids ∷ more) right line =
     form-more Bids bid_in (bid_section bids) (bid_sections more) bids
@@ -229,7 +228,7 @@ module _ (s : Sheet) (right : RightParts s) where
       subst (λ (w : List ℕ). Placed Paths path_line_at w R s.paths) (paths-same s.paths)
       (placed path_sort path-in path-out s.paths R right.paths right.few-paths)
 
-  sections-form : (line : ℕ) → form_from (parts_of s.kind) line (A ++ (B ++ R)) ≡ Right
+  sections-form : (line : ℕ) → form_from (parts_of s.kind) line (A ++ (B ++ R)) ≡ well_formed
   sections-form line =
       ap (λ (parts : List Part). form_from parts line (A ++ (B ++ R))) (parts_are s.kind)
       ∙ ap (λ (k : ℕ). form_from (Bidders ∷ Paths ∷ replicate k Bids) line (A ++ (B ++ R))) (sym right.count)
@@ -242,7 +241,7 @@ module _ (s : Sheet) (right : RightParts s) where
   at-bidders : at_bidders (T ++ (A ++ (B ++ R))) ≡ A ++ (B ++ R)
   at-bidders = ap (λ (n : ℕ). drop n (T ++ (A ++ (B ++ R)))) whole-title ∙ drop-append_seam T (A ++ (B ++ R))
 
-  form-whole : length (T ++ (A ++ (B ++ R))) ≤ sheet_bytes → form_of (T ++ (A ++ (B ++ R))) ≡ Right
+  form-whole : length (T ++ (A ++ (B ++ R))) ≤ sheet_bytes → form_of (T ++ (A ++ (B ++ R))) ≡ well_formed
   unfolding form_of
   form-whole short =
       let text = T ++ (A ++ (B ++ R)) in
@@ -270,7 +269,7 @@ module _ (s : Sheet) (right : RightParts s) where
       (ap₂ rounds_at (ap rounds_of kind ∙ sym right.count) at-rounds ∙ rounds-again s.rounds right.rounds)
 
 -- every right sheet that is short enough is well formed when it is written, and what is read in it is that sheet
-pub written-has-form : (s : Sheet) → right_sheet s ≡ true → length (sheet_text s) ≤ sheet_bytes → form_of (sheet_text s) ≡ Right
+pub written-has-form : (s : Sheet) → right_sheet s ≡ true → length (sheet_text s) ≤ sheet_bytes → form_of (sheet_text s) ≡ well_formed
 written-has-form s right short =
     let p = right-parts s right in
     let same = text-is s p in
@@ -297,9 +296,9 @@ record RoundsRead (k : ℕ) (text : List ℕ) : Type 0 where
   count : length (rounds_at k text) ≡ k
   right : every right_section (rounds_at k text) ≡ true
 
-rounds-read : (k line : ℕ) (text : List ℕ) → form_from (replicate k Bids) line text ≡ Right → RoundsRead k text
+rounds-read : (k line : ℕ) (text : List ℕ) → form_from (replicate k Bids) line text ≡ well_formed → RoundsRead k text
 rounds-read zero line text h =
-    record { written = no_bytes text (stands-right (eqb (length text) 0) line Right h).0; count = refl; right = refl }
+    record { written = no_bytes text (stands-right (eqb (length text) 0) line well_formed h).0; count = refl; right = refl }
 rounds-read (suc k) line text h =
     let next = line + (section_at Bids text).lines in
     let rest = after_part Bids text in
@@ -316,12 +315,12 @@ rounds-read (suc k) line text h =
           ap₂ ◌&&◌ (ap₂ ◌&&◌ (le-leb (length bids) word_top r.most) (sym (bids-right bids 0) ∙ r.right)) more.right;
     }
 
-module _ (text : List ℕ) (form : form_of text ≡ Right) where
-  outer : (leb (length text) sheet_bytes ≡ true) × (if_whole (leb 1 (title_used text)) 1 (form_from (parts_of (sheet_kind text)) 2 (at_bidders text)) ≡ Right)
+module _ (text : List ℕ) (form : form_of text ≡ well_formed) where
+  outer : (leb (length text) sheet_bytes ≡ true) × (if_whole (leb 1 (title_used text)) 1 (form_from (parts_of (sheet_kind text)) 2 (at_bidders text)) ≡ well_formed)
   unfolding form_of
   outer = stands-right (leb (length text) sheet_bytes) 0 (if_whole (leb 1 (title_used text)) 1 (form_from (parts_of (sheet_kind text)) 2 (at_bidders text))) form
 
-  pub inner : (leb 1 (title_used text) ≡ true) × (form_from (parts_of (sheet_kind text)) 2 (at_bidders text) ≡ Right)
+  pub inner : (leb 1 (title_used text) ≡ true) × (form_from (parts_of (sheet_kind text)) 2 (at_bidders text) ≡ well_formed)
   inner = stands-right (leb 1 (title_used text)) 1 (form_from (parts_of (sheet_kind text)) 2 (at_bidders text)) outer.1
 
   title : TitleRead text
@@ -336,12 +335,12 @@ module _ (text : List ℕ) (form : form_of text ≡ Right) where
   abbrev later : List Part
   later = replicate (rounds_of (sheet_kind text)) Bids
 
-  from-bidders : (section_whole Bidders (at_bidders text) ≡ true) × (form_from (Paths ∷ later) second (at_paths text) ≡ Right)
+  from-bidders : (section_whole Bidders (at_bidders text) ≡ true) × (form_from (Paths ∷ later) second (at_paths text) ≡ well_formed)
   from-bidders =
       stands-right (section_whole Bidders (at_bidders text)) second (form_from (Paths ∷ later) second (at_paths text))
       (ap (λ (parts : List Part). form_from parts 2 (at_bidders text)) (sym (parts_are (sheet_kind text))) ∙ inner.1)
 
-  pub from-paths : (section_whole Paths (at_paths text) ≡ true) × (form_from later third (at_rounds text) ≡ Right)
+  pub from-paths : (section_whole Paths (at_paths text) ≡ true) × (form_from later third (at_rounds text) ≡ well_formed)
   from-paths = stands-right (section_whole Paths (at_paths text)) third (form_from later third (at_rounds text)) from-bidders.1
 
   pub bidders : SectionRead bidder_sort (at_bidders text)

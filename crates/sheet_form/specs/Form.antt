@@ -1,15 +1,15 @@
 -- The form of a sheet (rules 14.1, 14.3, 14.5 and 14.8), tested line by line, each line where the one before it ends: right, or the number of the
 -- line at which the text stops being a sheet.
-use Rattle.std.specs.Prelude.{◌≡◌, Bool, true, false, List, [], ◌∷◌, ℕ, zero, suc, ◌+◌, ◌≤◌, leb, eqb, length, get_or, drop}
+use Rattle.std.specs.Prelude.{◌≡◌, Bool, true, false, List, [], ◌∷◌, ℕ, zero, suc, ◌+◌, ◌≤◌, leb, eqb, length, get_or, drop, Result, Ok, Err}
 use Rattle.market.specs.Limits.{sheet_bytes}
 use Rattle.market.specs.declared.book.Kind.{Kind}
 use Rattle.market.specs.declared.book.Kind.TheVariants.{Short, Long}
 use Rattle.sheet_lines.specs.Lines.{kind_of_byte, kind_place, title_used, count_used, count_said, line_at}
 use Rattle.sheet_lines.specs.declared.part.Part.{Part}
 use Rattle.sheet_lines.specs.declared.part.Part.TheVariants.{Bidders, Paths, Bids}
-use Rattle.sheet_form.specs.declared.form.Form.{Form}
-use Rattle.sheet_form.specs.declared.form.Form.TheVariants.{Right, Faulty}
+use Rattle.sheet_form.specs.declared.form.FaultyLine.{FaultyLine}
 use Rattle.sheet_form.specs.declared.form.Found.{Found}
+use Rattle.sheet_form.specs.declared.place.Place.{Place}
 use Rattle.sheet_form.specs.declared.form.Read.{Read}
 
 -- ---- The lines of a section
@@ -42,15 +42,30 @@ abbrev pub parts_of : Kind → List Part
 parts_of Short = Bidders ∷ Paths ∷ Bids ∷ []
 parts_of Long = Bidders ∷ Paths ∷ Bids ∷ Bids ∷ []
 
+-- a text is well-formed, or it has a first faulty line
+abbrev pub Form : Type 0
+Form = Result (Unit {0}) FaultyLine
+
+abbrev pub well_formed : Form
+well_formed = Ok tt
+
+abbrev pub faulty_at : ℕ → Form
+faulty_at line = Err (record { 0 = line })
+
+-- the form that was found, whatever else was found of a well-formed text
+abbrev pub form_only : {A : Type 0} → Result A FaultyLine → Form
+form_only (Ok x) = well_formed
+form_only (Err line) = Err line
+
 -- the rest of the form if the test is true, and otherwise the number of the faulty line
 abbrev pub if_whole : Bool → ℕ → Form → Form
 if_whole true line rest = rest
-if_whole false line rest = Faulty line
+if_whole false line rest = faulty_at line
 
 -- rule 14.8: the line that is wrong, the place of one that is not there, or a line after the end; with the sections still to come and the number of
 -- the next line
 abbrev pub form_from : List Part → ℕ → List ℕ → Form
-form_from [] line text = if_whole (eqb (length text) 0) line Right
+form_from [] line text = if_whole (eqb (length text) 0) line well_formed
 form_from (part ∷ parts) line text =
     if_whole (section_whole part text) (line + (section_at part text).lines)
     (form_from parts (line + (section_at part text).lines) (drop (section_at part text).used text))
@@ -68,10 +83,17 @@ form_of text =
 
 -- ---- Places
 
--- a fact that is claimed only of a well-formed text
-abbrev pub IfRight : Form → Type 0 → Type 0
-IfRight Right fact = fact
-IfRight (Faulty line) fact = Unit {0}
+-- a section of which all lines are right, and the place after it
+pub record SectionIs (part : Part) (bytes : List ℕ) (from next : Place) : Type 0 where
+  pub whole : section_whole part (drop from.at bytes) ≡ true
+  pub place : next.at ≡ from.at + (section_at part (drop from.at bytes)).used
+  pub line : next.line ≡ from.line + (section_at part (drop from.at bytes)).lines
+  pub inside : next.at ≤ length bytes
+
+-- a section with a faulty line
+pub record FaultIn (part : Part) (bytes : List ℕ) (from : Place) (fault : FaultyLine) : Type 0 where
+  pub whole : section_whole part (drop from.at bytes) ≡ false
+  pub line : fault.0 ≡ from.line + (section_at part (drop from.at bytes)).lines
 
 -- rule 14.6: the places of the sections, the first of them at `at`; after the first section of bids comes the second, or the end
 pub record PlacesAre (bytes : List ℕ) (at : ℕ) (found : Found) : Type 0 where

@@ -1,21 +1,19 @@
 // The form of a sheet, tested line by line.
-ghost use Rattle.std.specs.Prelude.{◌≡◌, [], ◌∷◌, ◌+◌, ◌≤◌, length, drop, replicate};
+ghost use Rattle.std.specs.Prelude.{◌≡◌, [], ◌∷◌, ◌+◌, ◌≤◌, length, drop, replicate, IfOk, IfErr};
 ghost use Rattle.market.specs.Limits.{sheet_bytes};
 ghost use Rattle.sheet_lines.specs.Lines.{title_used};
 ghost use Rattle.sheet_lines.specs.declared.part.Part.TheVariants.{Bids};
 ghost use Rattle.sheet_form.specs.Form as rules;
 ghost use Rattle.sheet_form.specs.Sheet.{rounds_of};
 
+use crate::place::Place;
 use market::book::Kind;
 use market::engine::Engine;
 use sheet_lines::part::Part;
 
-// Whether a text is a well-formed sheet; if not, the number of the line at which it stops being one, or 0 for a text of too many bytes (rule 14.8).
-#[derive(Clone, Copy)]
-pub enum Form {
-    Right,
-    Faulty(u32),
-}
+// The number of the line at which a text stops being a well-formed sheet, or 0 for a text of too many bytes (rule 14.8).
+#[derive(Clone, Copy, Debug, PartialEq, Eq)]
+pub struct FaultyLine(pub u32);
 
 // How many lines were read, one after another, and the bytes that they take.
 #[derive(Clone, Copy)]
@@ -32,168 +30,109 @@ fn lines_from(part: Part, bytes: &[u8], at: usize, count: u64) -> Read
     ensures fits { at + result.used ≤ length bytes.now }
     ensures few { result.lines ≤ result.used }
 {
-    let mut lines: usize = 0;
-    let mut used: usize = 0;
-    let mut state: u64 = 0;
-    let mut left = count;
-    while left > 0 {
+    let mut used = 0;
+    let mut state = 0;
+    for n in 0..count {
         let step = sheet_lines::section::line_at(part, state, bytes, at + used);
         if step.used == 0 {
-            return Read { lines, used };
+            return Read {
+                lines: n as usize,
+                used,
+            };
         }
-        lines += 1;
         used += step.used;
         state = step.next;
-        left -= 1;
     }
-    Read { lines, used }
+    Read {
+        lines: count as usize,
+        used,
+    }
 }
 
-// A section that was read: whether all its lines are right, how many are, with its count line, and the bytes that these take.
-#[derive(Clone, Copy)]
-pub struct Section {
-    pub present: bool,
-    pub lines: usize,
-    pub used: usize,
-}
-
-// The section at a place.
-fn section_at(part: Part, bytes: &[u8], at: usize) -> Section
-    requires at_in_bounds { at ≤ length bytes.now }
+// The section at a place: the place after it.
+fn section_at(part: Part, bytes: &[u8], from: Place) -> Result<Place, FaultyLine>
+    requires at_in_bounds { from.at ≤ length bytes.now }
     requires bytes_len_bound { length bytes.now ≤ sheet_bytes }
-    ensures present { result.present ≡ rules.section_whole part (drop at bytes.now) }
-    ensures lines { result.lines ≡ (rules.section_at part (drop at bytes.now)).lines }
-    ensures used { result.used ≡ (rules.section_at part (drop at bytes.now)).used }
-    ensures fits { at + result.used ≤ length bytes.now }
-    ensures few { result.lines ≤ result.used }
+    ensures whole { IfOk result (rules.SectionIs part bytes.now from) }
+    ensures faulty { IfErr result (rules.FaultIn part bytes.now from) }
 {
-    let count = sheet_lines::count_line(bytes, at, part);
+    let count = sheet_lines::count_line(bytes, from.at, part);
     if count.used == 0 {
-        return Section {
-            present: false,
-            lines: 0,
-            used: 0,
-        };
+        return Err(FaultyLine(from.line));
     }
-    let more = lines_from(part, bytes, at + count.used, count.value);
-    Section {
-        present: (more.lines as u64) == count.value,
-        lines: 1 + more.lines,
-        used: count.used + more.used,
+    let more = lines_from(part, bytes, from.at + count.used, count.value);
+    let line = from.line + 1 + more.lines as u32;
+    if more.lines as u64 != count.value {
+        return Err(FaultyLine(line));
     }
+    Ok(Place {
+        at: from.at + count.used + more.used,
+        line,
+    })
 }
 
 // The end of the sheet: a line here is one too many.
-fn end_form(bytes: &[u8], at: usize, line: u32) -> Form
-    requires { at ≤ length bytes.now }
-    ensures { result ≡ rules.form_from [] line (drop at bytes.now) }
+fn end_form(bytes: &[u8], from: Place) -> Result<(), FaultyLine>
+    requires { from.at ≤ length bytes.now }
+    ensures { result ≡ rules.form_from [] from.line (drop from.at bytes.now) }
 {
-    if at == bytes.len() {
-        return Form::Right;
+    if from.at < bytes.len() {
+        return Err(FaultyLine(from.line));
     }
-    Form::Faulty(line)
+    Ok(())
 }
 
 // The last section of bids, and the end after it.
-fn last_round(bytes: &[u8], at: usize, line: u32) -> Form
-    requires at_in_bounds { at ≤ length bytes.now }
+fn last_round(bytes: &[u8], from: Place) -> Result<(), FaultyLine>
+    requires at_in_bounds { from.at ≤ length bytes.now }
     requires bytes_len_bound { length bytes.now ≤ sheet_bytes }
-    requires line_bound { line ≤ at + 1 }
-    ensures { result ≡ rules.form_from (Bids ∷ []) line (drop at bytes.now) }
+    ensures { result ≡ rules.form_from (Bids ∷ []) from.line (drop from.at bytes.now) }
 {
-    let section = section_at(Part::Bids, bytes, at);
-    let next = line + (section.lines as u32);
-    if !section.present {
-        return Form::Faulty(next);
-    }
-    end_form(bytes, at + section.used, next)
+    let end = section_at(Part::Bids, bytes, from)?;
+    end_form(bytes, end)
 }
 
-// What was found from the first section of bids on: the form, and the place of the second section, or of the end.
-#[derive(Clone, Copy)]
-pub struct Rounds {
-    pub form: Form,
-    pub second: usize,
-}
-
-// The sections of bids, one for a short auction and two for a long one, and the end after them.
-fn rounds_form(kind: Kind, bytes: &[u8], at: usize, line: u32) -> Rounds
-    requires at_in_bounds { at ≤ length bytes.now }
+// The sections of bids, one for a short auction and two for a long one, and the end after them: the place after the first.
+fn rounds_form(kind: Kind, bytes: &[u8], from: Place) -> Result<usize, FaultyLine>
+    requires at_in_bounds { from.at ≤ length bytes.now }
     requires bytes_len_bound { length bytes.now ≤ sheet_bytes }
-    requires line_bound { line ≤ at + 1 }
-    ensures form { result.form ≡ rules.form_from (replicate (rounds_of kind) Bids) line (drop at bytes.now) }
-    ensures second { result.second ≡ at + (rules.section_at Bids (drop at bytes.now)).used }
-    ensures fits { result.second ≤ length bytes.now }
+    ensures form { rules.form_only result ≡ rules.form_from (replicate (rounds_of kind) Bids) from.line (drop from.at bytes.now) }
+    ensures second { IfOk result (λ second. second ≡ from.at + (rules.section_at Bids (drop from.at bytes.now)).used) }
+    ensures fits { IfOk result (λ second. second ≤ length bytes.now) }
 {
-    let first = section_at(Part::Bids, bytes, at);
-    let next = line + (first.lines as u32);
-    let second = at + first.used;
-    if !first.present {
-        return Rounds {
-            form: Form::Faulty(next),
-            second,
-        };
+    let later = section_at(Part::Bids, bytes, from)?;
+    match kind {
+        Kind::Short => end_form(bytes, later)?,
+        Kind::Long => last_round(bytes, later)?,
     }
-    let form = match kind {
-        Kind::Short => end_form(bytes, second, next),
-        Kind::Long => last_round(bytes, second, next),
-    };
-    Rounds { form, second }
+    Ok(later.at)
 }
 
-// What was found of a sheet: its form and, if that is right, the places at which its sections begin. After the first section of
-// bids comes the second, or the end.
+// The places at which the sections of a well-formed sheet begin. After the first section of bids comes the second, or the end.
 #[derive(Clone, Copy)]
 pub struct Found {
-    pub form: Form,
     pub bidders: usize,
     pub paths: usize,
     pub first: usize,
     pub second: usize,
 }
 
-// A sheet with a faulty line.
-fn faulty(line: u32) -> Found
-    ensures { result.form ≡ Form.Faulty line }
-{
-    Found {
-        form: Form::Faulty(line),
-        bidders: 0,
-        paths: 0,
-        first: 0,
-        second: 0,
-    }
-}
-
 // The sections of a sheet, from a place on.
-fn sections_form(kind: Kind, bytes: &[u8], at: usize, line: u32) -> Found
-    requires at_in_bounds { at ≤ length bytes.now }
+fn sections_form(kind: Kind, bytes: &[u8], from: Place) -> Result<Found, FaultyLine>
+    requires at_in_bounds { from.at ≤ length bytes.now }
     requires bytes_len_bound { length bytes.now ≤ sheet_bytes }
-    requires line_bound { line ≤ at + 1 }
-    ensures form { result.form ≡ rules.form_from (rules.parts_of kind) line (drop at bytes.now) }
-    ensures places { rules.IfRight result.form (rules.PlacesAre bytes.now at result) }
+    ensures form { rules.form_only result ≡ rules.form_from (rules.parts_of kind) from.line (drop from.at bytes.now) }
+    ensures places { IfOk result (rules.PlacesAre bytes.now from.at) }
 {
-    let bidders = section_at(Part::Bidders, bytes, at);
-    let second = line + (bidders.lines as u32);
-    if !bidders.present {
-        return faulty(second);
-    }
-    let place = at + bidders.used;
-    let paths = section_at(Part::Paths, bytes, place);
-    let third = second + (paths.lines as u32);
-    if !paths.present {
-        return faulty(third);
-    }
-    let first = place + paths.used;
-    let rounds = rounds_form(kind, bytes, first, third);
-    let form = rounds.form;
-    Found {
-        form,
-        bidders: at,
-        paths: place,
-        first,
-        second: rounds.second,
-    }
+    let paths = section_at(Part::Bidders, bytes, from)?;
+    let first = section_at(Part::Paths, bytes, paths)?;
+    let second = rounds_form(kind, bytes, first)?;
+    Ok(Found {
+        bidders: from.at,
+        paths: paths.at,
+        first: first.at,
+        second,
+    })
 }
 
 // The kind in a title.
@@ -202,22 +141,23 @@ pub fn kind_in(bytes: &[u8]) -> Kind
     ensures { result ≡ rules.sheet_kind bytes.now }
 {
     if bytes[4] == sheet_lines::LONG {
-        return Kind::Long;
+        Kind::Long
+    } else {
+        Kind::Short
     }
-    Kind::Short
 }
 
-// The form of a text (rule 14.8).
-pub fn form_of(bytes: &[u8]) -> Found
-    ensures form { result.form ≡ rules.form_of bytes.now }
-    ensures places { rules.IfRight result.form (rules.PlacesAre bytes.now (title_used bytes.now) result) }
+// The form of a text (rule 14.8): the places of its sections, or its first faulty line.
+pub fn form_of(bytes: &[u8]) -> Result<Found, FaultyLine>
+    ensures form { rules.form_only result ≡ rules.form_of bytes.now }
+    ensures places { IfOk result (rules.PlacesAre bytes.now (title_used bytes.now)) }
 {
     if bytes.len() > Engine::SHEET_BYTES {
-        return faulty(0);
+        return Err(FaultyLine(0));
     }
     let title = sheet_lines::title_used(bytes);
     if title == 0 {
-        return faulty(1);
+        return Err(FaultyLine(1));
     }
-    sections_form(kind_in(bytes), bytes, title, 2)
+    sections_form(kind_in(bytes), bytes, Place { at: title, line: 2 })
 }

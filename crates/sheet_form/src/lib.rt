@@ -2,4 +2,5 @@
 #![tactic(auto)]
 
 pub mod form;
+pub mod place;
 pub mod rows;

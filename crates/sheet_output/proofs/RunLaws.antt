@@ -19,11 +19,10 @@ use Rattle.sheet_lines.specs.declared.part.Part.TheVariants.{Bidders, Paths, Bid
 use Rattle.sheet_form.proofs.FormLaws.{title-long}
 use Rattle.sheet_form.proofs.PlaceLaws.{paths-place}
 use Rattle.sheet_form.proofs.RightLaws.{says-count, title-some, few-bidders}
-use Rattle.sheet_form.specs.Form.{PlacesAre, form_of, sheet_kind}
+use Rattle.sheet_form.specs.Form.{Form, well_formed, faulty_at, PlacesAre, form_of, sheet_kind}
 use Rattle.sheet_form.specs.Reading.{sheet_in, bidder_line_at, path_line_at, section_says, part_at, after_part, at_bidders, at_rounds}
 use Rattle.sheet_form.specs.Slots.{bidder_rows, path_slots}
 use Rattle.sheet_form.specs.Words.{section_words}
-use Rattle.sheet_form.specs.declared.form.Form.TheVariants.{Right}
 use Rattle.sheet_form.specs.declared.form.Found.{Found}
 use Rattle.sheet_form.specs.declared.rows.BidderLine.{BidderLine}
 use Rattle.sheet_form.specs.declared.rows.BidderRows.{BidderRows}
@@ -38,7 +37,7 @@ use Rattle.sheet_output.proofs.SheetRun.{opened-state, bidders, paths, period, b
 
 -- ---- Places
 
-module _ {text : List ℕ} {found : Found} (form : form_of text ≡ Right) (places : PlacesAre text (title_used text) found) where
+module _ {text : List ℕ} {found : Found} (form : form_of text ≡ well_formed) (places : PlacesAre text (title_used text) found) where
   pub paths-inside : found.paths ≤ length text
   paths-inside = omega (arith, places.first, places.second, places.inside)
 
@@ -61,7 +60,7 @@ module _ {text : List ℕ} {found : Found} (form : form_of text ≡ Right) (plac
 -- ---- What was read
 
 pub record Read (text : List ℕ) (found : Found) (rows : BidderRows) (slots : PathRows) (kind : Kind) (days : Period) : Type 0 where
-  pub form : form_of text ≡ Right
+  pub form : form_of text ≡ well_formed
   pub places : PlacesAre text (title_used text) found
   pub rows_are : rows ≡ bidder_rows (section_says Bidders bidder_line_at (drop found.bidders text))
   pub slots-are : slots ≡ path_slots (section_says Paths path_line_at (drop found.paths text))
@@ -113,7 +112,7 @@ pub record Opened (text : List ℕ) (found : Found) (rows : BidderRows) (slots :
 
 module _ {text : List ℕ} {found : Found} {rows : BidderRows} {slots : PathRows} {kind : Kind} {days : Period} {o : Outcome} {numbers : List ℕ}
     (done : Opened text found rows slots kind days o numbers) where
-  abbrev form : form_of text ≡ Right
+  abbrev form : form_of text ≡ well_formed
   form = done.read.form
 
   begun : o ≡ begins text form

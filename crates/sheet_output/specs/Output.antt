@@ -1,16 +1,14 @@
 -- The output of a sheet, from its bytes, and the buffer that it is written to (rules 14.6 to 14.12, and rule 13.40).
-use Rattle.std.specs.Prelude.{Bool, true, false, List, map, ℕ, leb, length}
+use Rattle.std.specs.Prelude.{Bool, true, false, List, map, ℕ, leb, length, Ok, Err}
 use Rattle.market.specs.Books.{day_number}
 use Rattle.market.specs.Limits.{award_sheet_bytes}
 use Rattle.market.specs.declared.answer.Outcome.{Outcome}
 use Rattle.market.specs.declared.book.Period.{Period}
 use Rattle.text_numbers.specs.Put.{put_at}
 use Rattle.round_bids.specs.Encoding.{encoded}
-use Rattle.sheet_form.specs.Form.{form_of}
+use Rattle.sheet_form.specs.Form.{Form, form_of}
 use Rattle.sheet_form.specs.Reading.{sheet_in}
 use Rattle.sheet_form.specs.Sheet.{Sheet}
-use Rattle.sheet_form.specs.declared.form.Form.{Form}
-use Rattle.sheet_form.specs.declared.form.Form.TheVariants.{Right, Faulty}
 use Rattle.sheet_calls.specs.Calls.{opened}
 use Rattle.sheet_rounds.specs.Rounds.{output_from}
 use Rattle.sheet_output.specs.declared.Reply.{Reply}
@@ -36,8 +34,8 @@ sheet_output s = output_from (start s) (map (λ x. x.bidder) s.bidders) (map enc
 
 -- rules 13.40 and 14.8: a sheet of faulty form has the one line `refused 40 line L`, and none of its calls is made
 abbrev pub by_form : Form → List ℕ → List ℕ
-by_form Right output = output
-by_form (Faulty line) output = refused_line form_refusal line
+by_form (Ok found) output = output
+by_form (Err line) output = refused_line form_refusal line.0
 
 -- rules 14.8 and 14.12: the output of any bytes, which the program `tra` writes for those that it reads
 unfoldable pub output_of : List ℕ → List ℕ

@@ -10,7 +10,7 @@ use award_sheet::refusals;
 use market::answer::Refusal;
 use market::engine::Engine;
 use sheet_form::form;
-use sheet_form::form::Form;
+use sheet_form::form::FaultyLine;
 
 // The answer: the number of bytes written, or a refusal of the calling program.
 #[derive(Clone, Copy)]
@@ -27,11 +27,9 @@ pub fn output(bytes: &[u8], out: &mut [u8]) -> Reply
     if out.len() < Engine::AWARD_SHEET_BYTES {
         return Reply::Refused(Refusal::SHORT_BUFFER);
     }
-    let found = form::form_of(bytes);
-    let form = found.form;
-    let count = match form {
-        Form::Right => sheet::run(bytes, found, out),
-        Form::Faulty(line) => refusals::faulty(out, line),
+    let count = match form::form_of(bytes) {
+        Ok(found) => sheet::run(bytes, found, out),
+        Err(FaultyLine(line)) => refusals::faulty(out, line),
     };
     Reply::Written(count)
 }

@@ -6,7 +6,7 @@ ghost use Rattle.market.specs.Limits.{award_sheet_bytes, bidder_limit, sheet_byt
 ghost use Rattle.text_numbers.specs.Put.{Put};
 ghost use Rattle.sheet_lines.specs.Lines.{title_used};
 ghost use Rattle.sheet_lines.specs.declared.part.Part.TheVariants.{Bids};
-ghost use Rattle.sheet_form.specs.Form.{form_of, PlacesAre};
+ghost use Rattle.sheet_form.specs.Form.{form_of, well_formed, PlacesAre};
 ghost use Rattle.sheet_form.specs.Reading.{sheet_in, part_at, after_part, at_rounds};
 ghost use Rattle.sheet_form.specs.Words.{section_words};
 ghost use Rattle.call_rules.specs.State.{SoundMemory};
@@ -20,7 +20,7 @@ use market::answer::Refusal;
 use market::book::{Book, Kind};
 use market::engine::Engine;
 use sheet_form::form;
-use sheet_form::form::{Form, Found};
+use sheet_form::form::Found;
 
 // The round of a short auction, with the book that its open leaves.
 fn run_short(bytes: &[u8], found: Found, book: Book, listed: &[u32], out: &mut [u8]) -> usize
@@ -63,7 +63,7 @@ fn run_long(bytes: &[u8], found: Found, book: Book, listed: &[u32], out: &mut [u
 
 // All calls of the sheet (rule 14.6), and their output.
 pub fn run(bytes: &[u8], found: Found, out: &mut [u8]) -> usize
-    requires bytes_value { form_of bytes.now ≡ Form.Right }
+    requires bytes_value { form_of bytes.now ≡ well_formed }
     requires places_are { PlacesAre bytes.now (title_used bytes.now) found }
     requires award_sheet_bytes_in_bounds { award_sheet_bytes ≤ length out.old }
     ensures { Put out.old 0 (sheet_output (sheet_in bytes.now)) out.new result }

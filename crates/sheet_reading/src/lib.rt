@@ -68,10 +68,7 @@ fn direction_at(bytes: &[u8], at: usize) -> Direction
     requires { at ≤ length bytes.now }
     ensures { result ≡ direction_of (get_or (drop at bytes.now) 0 0) }
 {
-    if at == bytes.len() {
-        return Direction::Export;
-    }
-    if bytes[at] == sheet_lines::IMPORT {
+    if at < bytes.len() && bytes[at] == sheet_lines::IMPORT {
         return Direction::Import;
     }
     Direction::Export
@@ -210,23 +207,13 @@ fn path_slots(bytes: &[u8], at: usize, count: usize) -> [PathLine; Engine::PATHS
     slots
 }
 
-// How many of `count` paths have a slot.
-fn slotted(count: u64) -> usize
-    ensures { result ≡ min count path_limit }
-{
-    if count < PATHS {
-        return count as usize;
-    }
-    Engine::PATHS
-}
-
 // The first paths' lines of the section at a place, and how many lines it has in all.
 pub fn paths_of(bytes: &[u8], at: usize) -> PathRows
     requires { at ≤ length bytes.now }
     ensures { result ≡ path_slots (section_says Paths path_line_at (drop at bytes.now)) }
 {
     let said = sheet_lines::count_line(bytes, at, Part::Paths);
-    let few = slotted(said.value);
+    let few = said.value.min(PATHS) as usize;
     PathRows {
         count: said.value as usize,
         lines: path_slots(bytes, at + said.used, few),

@@ -1,11 +1,8 @@
--- The invariant (`LinesTo`): the lines that the rule reads are the `lines` read so far and then what it reads of the
--- `left` lines from here on. A line takes at least one byte, so `lines` and `state` stay small and no sum wraps.
+-- The invariant (`LinesTo`): the lines that the rule reads are the `n` lines read so far and then what it reads of those
+-- that are left, from here on. A line takes at least one byte, so `n` and `state` stay small and no sum wraps.
+use Prim.Native.Nat.{◌-◌}
 use Rattle.sheet_form.proofs.FormLaws.{LinesTo}
 use Rattle.sheet_form.proofs.form.lines_from.Given as goal
 
-abbrev pub invariant-loop-left : goal.invariant-loop-left
-invariant-loop-left l =
-    LinesTo l.part l.bytes l.at l.count l.lines l.used l.state l.left
-
-abbrev pub decreases-loop-left : goal.decreases-loop-left
-decreases-loop-left l = l.left
+abbrev pub invariant-loop-n : goal.invariant-loop-n
+invariant-loop-n l = LinesTo l.part l.bytes l.at l.count l.n l.used l.state (l.count - l.n)
