@@ -12,7 +12,7 @@ use Rattle.market.proofs.Every.{every-at-any, every_set}
 use Rattle.market.proofs.Filled.{fill-snoc}
 use Rattle.market.specs.Books.{every}
 use Rattle.market.specs.Limits.{bidder_limit, bid_limit, bid_list_words, bidding_limit_top, path_limit, admitted, over}
-use Rattle.round_bids.proofs.Walk.{Walk, left, walk_start, left-start, walk-on, walk-done, left-splits, bid-below}
+use Rattle.round_bids.proofs.Walk.{Walk, left, walk_start, left-start, walk-on, walk-done, left-splits, bid-below, all-counted}
 use Rattle.round_bids.specs.BidRefusals.{sound_list}
 use Rattle.round_bids.specs.Bids.{Bid, bid_at, bid_end, bids_of, bid_value}
 use Rattle.round_admission.specs.Admission.{within_top, admits, mark_of, used_after, marks_from, marks_of}
@@ -51,18 +51,13 @@ used-by false used i total = sym (set-get_or used i 0)
 
 module _ {words limits marks used : List ℕ} {k at : ℕ} (m : MarkedTo words limits marks used k at) where
   -- every bid has its mark
-  pub all-counted : length words ≤ at → k ≡ length (bids_of words)
-  all-counted end =
-      let none = walk-done path_limit words k at m.walk end in
-      omega (arith, m.walk.counted, ap (λ (l : List Bid). length l) none)
-
   pub all-marked : length words ≤ at → marks ≡ marks_of limits (bids_of words) ++ replicate (bid_limit - length (bids_of words)) 0
   all-marked end =
       let none = walk-done path_limit words k at m.walk end in
       let whole : marks_of limits (bids_of words) ≡ m.front =
       m.rest ∙ ap (λ (l : List Bid). m.front ++ marks_from limits used l) none ∙ append-nil m.front
       in
-      m.stored ∙ ap₂ (λ (l : List ℕ) (n : ℕ). l ++ replicate (bid_limit - n) 0) (sym whole) (all-counted end)
+      m.stored ∙ ap₂ (λ (l : List ℕ) (n : ℕ). l ++ replicate (bid_limit - n) 0) (sym whole) (all-counted path_limit words k at m.walk end)
 
   module _ (inside : at < length words) (short : length words ≤ bid_list_words) (tops : every within_top limits ≡ true) where
     abbrev bid : Bid
