@@ -39,9 +39,7 @@ fn put_open(out: &mut [u8], at: usize, kind: Kind, round: u32, period: Period) -
     requires { at + length (open_text kind round period) ≤ length out.old }
     ensures { Put out.old at (open_text kind round period) out.new result }
 {
-    let first = period.first;
-    let last = period.last;
-    let row = [round as u64, first.0 as u64, last.0 as u64];
+    let row = [round as u64, period.first.0 as u64, period.last.0 as u64];
     match kind {
         Kind::Short => journal_rows::put_row(out, at, b" open S", &row),
         Kind::Long => journal_rows::put_row(out, at, b" open L", &row),

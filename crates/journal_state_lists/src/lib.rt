@@ -12,11 +12,8 @@ fn put_offer(out: &mut [u8], at: usize, path: Path) -> usize
     requires { at + length (offer_text path) ≤ length out.old }
     ensures { Put out.old at (offer_text path) out.new result }
 {
-    let direction = path.direction;
-    let offer = path.offer;
-    let sold = path.sold;
-    let row = [path.zone as u64, offer.0 as u64, sold.0 as u64];
-    match direction {
+    let row = [path.zone as u64, path.offer.0 as u64, path.sold.0 as u64];
+    match path.direction {
         Direction::Export => journal_rows::put_last_row(out, at, b" X", &row),
         Direction::Import => journal_rows::put_last_row(out, at, b" M", &row),
     }
@@ -36,12 +33,11 @@ pub fn put_path(out: &mut [u8], i: usize, path: Path) -> usize
 fn is_blank(bidder: Bidder) -> bool
     ensures { result ≡ blank bidder }
 {
-    let cash = bidder.cash;
-    let applied = bidder.applied;
-    let letter = bidder.letter;
-    let hold = bidder.hold;
-    let owed = bidder.owed;
-    let money = (cash.0 == 0) & (applied.0 == 0) & (letter.0 == 0) & (hold.0 == 0) & (owed.0 == 0);
+    let money = (bidder.cash.0 == 0)
+        & (bidder.applied.0 == 0)
+        & (bidder.letter.0 == 0)
+        & (bidder.hold.0 == 0)
+        & (bidder.owed.0 == 0);
     money & (bidder.step == 0)
 }
 
@@ -53,18 +49,13 @@ pub fn put_bidder(out: &mut [u8], i: usize, bidder: Bidder) -> usize
     if is_blank(bidder) {
         return 0;
     }
-    let cash = bidder.cash;
-    let applied = bidder.applied;
-    let letter = bidder.letter;
-    let hold = bidder.hold;
-    let owed = bidder.owed;
     let row = [
         i as u64,
-        cash.0,
-        applied.0,
-        letter.0,
-        hold.0,
-        owed.0,
+        bidder.cash.0,
+        bidder.applied.0,
+        bidder.letter.0,
+        bidder.hold.0,
+        bidder.owed.0,
         bidder.step as u64,
     ];
     journal_rows::put_last_row(out, 0, b"# bidder", &row)
@@ -75,17 +66,13 @@ pub fn put_entry(out: &mut [u8], i: usize, entry: Entry) -> usize
     requires { line_room ≤ length out.old }
     ensures { Put out.old 0 (entry_text i entry) out.new result }
 {
-    let quantity = entry.quantity;
-    let period = entry.period;
-    let first = period.first;
-    let last = period.last;
     let row = [
         i as u64,
         entry.bidder as u64,
         entry.path as u64,
-        quantity.0 as u64,
-        first.0 as u64,
-        last.0 as u64,
+        entry.quantity.0 as u64,
+        entry.period.first.0 as u64,
+        entry.period.last.0 as u64,
         entry.state as u64,
     ];
     journal_rows::put_last_row(out, 0, b"# entry", &row)
