@@ -11,7 +11,6 @@ ghost use Rattle.text_numbers.specs.Put.{Put};
 ghost use Rattle.award_sheet_parts.specs.AwardSheet.{is_bidder, award_text};
 ghost use Rattle.award_sheet.specs.Rounds.{made, Answered};
 
-use award_sheet_writer::filled;
 use market::book::Book;
 
 // Writes the award sheet of one round at the front of the buffer, from the round's bids and answers, and from the book after it
@@ -31,7 +30,7 @@ pub fn put_one(
     ensures { Put out.old 0 (award_text (made bids.now answers.now results.now ∷ []) book listed.now)
         out.new result }
 {
-    filled(written::one(out, book, listed, bids, answers, results))
+    written::one(out, book, listed, bids, answers, results).filled()
 }
 
 // Writes the award sheet of two rounds at the front of the buffer.
@@ -61,7 +60,7 @@ pub fn put_two(
         book listed.now)
         out.new result }
 {
-    filled(written::two(
+    written::two(
         out,
         book,
         listed,
@@ -71,5 +70,6 @@ pub fn put_two(
         later_bids,
         later_answers,
         later_results,
-    ))
+    )
+    .filled()
 }

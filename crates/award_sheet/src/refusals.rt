@@ -10,7 +10,7 @@ pub fn refused(out: &mut [u8], number: u32) -> usize
     requires { award_sheet_bytes ≤ length out.old }
     ensures { Put out.old 0 (refused_text number) out.new result }
 {
-    award_sheet_writer::filled(crate::written::refused(out, number))
+    crate::written::refused(out, number).filled()
 }
 
 // Writes the number of the first faulty line of a sheet.
@@ -18,5 +18,5 @@ pub fn faulty(out: &mut [u8], line: u32) -> usize
     requires { award_sheet_bytes ≤ length out.old }
     ensures { Put out.old 0 (refused_line form_refusal line) out.new result }
 {
-    award_sheet_writer::filled(crate::written::faulty(out, line))
+    crate::written::faulty(out, line).filled()
 }

@@ -7,7 +7,7 @@ ghost use Rattle.award_sheet_parts.specs.AwardSheet.{is_bidder, award_text, refu
 ghost use Rattle.award_sheet_writer.specs.Written.{empty_writer, writer_after};
 ghost use Rattle.award_sheet.specs.Rounds.{made, Answered};
 
-use award_sheet_writer::{Writer, bidders, round, start, title};
+use award_sheet_writer::Writer;
 use market::book::Book;
 
 // Writes the award sheet of one round.
@@ -26,9 +26,9 @@ pub fn one<'a>(
     ensures { result ≡ writer_after (empty_writer out.entry) (award_text (made bids.now answers.now results.now ∷ []) book listed.now) }
 {
     let paths = book.path_count;
-    let titled = title(start(out), 1);
-    let first = round(titled, bids, answers, results, paths);
-    bidders(first, book, listed)
+    let titled = Writer::start(out).title(1);
+    let first = titled.round(bids, answers, results, paths);
+    first.bidders(book, listed)
 }
 
 // Writes the award sheet of two rounds.
@@ -53,10 +53,10 @@ pub fn two<'a>(
         ∷ made later_bids.now later_answers.now later_results.now ∷ []) book listed.now) }
 {
     let paths = book.path_count;
-    let titled = title(start(out), 2);
-    let first = round(titled, bids, answers, results, paths);
-    let second = round(first, later_bids, later_answers, later_results, paths);
-    bidders(second, book, listed)
+    let titled = Writer::start(out).title(2);
+    let first = titled.round(bids, answers, results, paths);
+    let second = first.round(later_bids, later_answers, later_results, paths);
+    second.bidders(book, listed)
 }
 
 // Writes a refusal's number.
@@ -64,7 +64,7 @@ pub fn refused<'a>(out: &'a mut [u8], number: u32) -> Writer<'a>
     requires { award_sheet_bytes ≤ length out.old }
     ensures { result ≡ writer_after (empty_writer out.entry) (refused_text number) }
 {
-    award_sheet_writer::refused(start(out), number)
+    Writer::start(out).refused(number)
 }
 
 // Writes the number of the first faulty line of a sheet.
@@ -72,5 +72,5 @@ pub fn faulty<'a>(out: &'a mut [u8], line: u32) -> Writer<'a>
     requires { award_sheet_bytes ≤ length out.old }
     ensures { result ≡ writer_after (empty_writer out.entry) (refused_line form_refusal line) }
 {
-    award_sheet_writer::faulty(start(out), line)
+    Writer::start(out).faulty(line)
 }

@@ -18,95 +18,95 @@ pub struct Writer<'a> {
     pub filled: usize,
 }
 
-// Begins a sheet, of which nothing is written yet.
-pub fn start<'a>(out: &'a mut [u8]) -> Writer<'a>
-    ensures { result ≡ empty_writer out.entry }
-{
-    Writer {
-        out: out,
-        filled: 0,
+impl<'a> Writer<'a> {
+    // Begins a sheet, of which nothing is written yet.
+    pub fn start(out: &'a mut [u8]) -> Writer<'a>
+        ensures { result ≡ empty_writer out.entry }
+    {
+        Writer { out, filled: 0 }
     }
-}
 
-// Writes the title, and the number of rounds.
-pub fn title<'a>(w: Writer<'a>, rounds: usize) -> Writer<'a>
-    requires { w.filled + length (title_text rounds) ≤ length w.out.now }
-    ensures { result ≡ writer_after w.entry (title_text rounds) }
-{
-    let at = w.filled;
-    let end = award_sheet_parts::title::put_title(&mut *w.out, at, rounds);
-    Writer {
-        out: w.out,
-        filled: end,
+    // Writes the title, and the number of rounds.
+    pub fn title(self, rounds: usize) -> Writer<'a>
+        requires { self.filled + length (title_text rounds) ≤ length self.out.now }
+        ensures { result ≡ writer_after self.entry (title_text rounds) }
+    {
+        let at = self.filled;
+        let filled = award_sheet_parts::title::put_title(&mut *self.out, at, rounds);
+        Writer {
+            out: self.out,
+            filled,
+        }
     }
-}
 
-// Writes a round of these bids, with its answers for bids and for paths.
-pub fn round<'a>(
-    w: Writer<'a>,
-    bids: &[u32],
-    answers: &[u64],
-    results: &[u64],
-    paths: usize,
-) -> Writer<'a>
-    requires bid_list { BidList bids.now }
-    requires bid_answer_words_in_bounds { bid_answer_words ≤ length answers.now }
-    requires path_answer_words_in_bounds { path_answer_words ≤ length results.now }
-    requires paths_le_path_limit { paths ≤ path_limit }
-    requires results_in_bounds { w.filled + length (answered_text paths bids.now answers.now results.now) ≤ length w.out.now }
-    ensures { result ≡ writer_after w.entry (answered_text paths bids.now answers.now results.now) }
-{
-    let at = w.filled;
-    let end = award_sheet_round::put_round(&mut *w.out, at, bids, answers, results, paths);
-    Writer {
-        out: w.out,
-        filled: end,
+    // Writes a round of these bids, with its answers for bids and for paths.
+    pub fn round(self, bids: &[u32], answers: &[u64], results: &[u64], paths: usize) -> Writer<'a>
+        requires bid_list { BidList bids.now }
+        requires bid_answer_words_in_bounds { bid_answer_words ≤ length answers.now }
+        requires path_answer_words_in_bounds { path_answer_words ≤ length results.now }
+        requires paths_le_path_limit { paths ≤ path_limit }
+        requires results_in_bounds { self.filled + length (answered_text paths bids.now answers.now results.now) ≤ length self.out.now }
+        ensures { result ≡ writer_after self.entry (answered_text paths bids.now answers.now results.now) }
+    {
+        let at = self.filled;
+        let filled = award_sheet_round::put_round(
+            &mut *self.out,
+            at,
+            bids,
+            answers,
+            results,
+            paths,
+        );
+        Writer {
+            out: self.out,
+            filled,
+        }
     }
-}
 
-// Writes how many bidders are listed, and their lines.
-pub fn bidders<'a>(w: Writer<'a>, book: Book, listed: &[u32]) -> Writer<'a>
-    requires listed_value { every is_bidder listed.now ≡ true }
-    requires listed_in_bounds { w.filled + length (bidders_text book listed.now) ≤ length w.out.now }
-    ensures { result ≡ writer_after w.entry (bidders_text book listed.now) }
-{
-    let at = w.filled;
-    let end = award_sheet_parts::bidder_lines::put_bidders(&mut *w.out, at, book, listed);
-    Writer {
-        out: w.out,
-        filled: end,
+    // Writes how many bidders are listed, and their lines.
+    pub fn bidders(self, book: Book, listed: &[u32]) -> Writer<'a>
+        requires listed_value { every is_bidder listed.now ≡ true }
+        requires listed_in_bounds { self.filled + length (bidders_text book listed.now) ≤ length self.out.now }
+        ensures { result ≡ writer_after self.entry (bidders_text book listed.now) }
+    {
+        let at = self.filled;
+        let filled = award_sheet_parts::bidder_lines::put_bidders(&mut *self.out, at, book, listed);
+        Writer {
+            out: self.out,
+            filled,
+        }
     }
-}
 
-// Writes a refusal's number, in the place of a sheet.
-pub fn refused<'a>(w: Writer<'a>, number: u32) -> Writer<'a>
-    requires { w.filled + length (refused_text number) ≤ length w.out.now }
-    ensures { result ≡ writer_after w.entry (refused_text number) }
-{
-    let at = w.filled;
-    let end = award_sheet_parts::refusals::put_refused(&mut *w.out, at, number);
-    Writer {
-        out: w.out,
-        filled: end,
+    // Writes a refusal's number, in the place of a sheet.
+    pub fn refused(self, number: u32) -> Writer<'a>
+        requires { self.filled + length (refused_text number) ≤ length self.out.now }
+        ensures { result ≡ writer_after self.entry (refused_text number) }
+    {
+        let at = self.filled;
+        let filled = award_sheet_parts::refusals::put_refused(&mut *self.out, at, number);
+        Writer {
+            out: self.out,
+            filled,
+        }
     }
-}
 
-// Writes the refusal of a faulty sheet, with its first faulty line, in the place of a sheet.
-pub fn faulty<'a>(w: Writer<'a>, line: u32) -> Writer<'a>
-    requires { w.filled + length (refused_line form_refusal line) ≤ length w.out.now }
-    ensures { result ≡ writer_after w.entry (refused_line form_refusal line) }
-{
-    let at = w.filled;
-    let end = award_sheet_parts::refusals::put_faulty(&mut *w.out, at, line);
-    Writer {
-        out: w.out,
-        filled: end,
+    // Writes the refusal of a faulty sheet, with its first faulty line, in the place of a sheet.
+    pub fn faulty(self, line: u32) -> Writer<'a>
+        requires { self.filled + length (refused_line form_refusal line) ≤ length self.out.now }
+        ensures { result ≡ writer_after self.entry (refused_line form_refusal line) }
+    {
+        let at = self.filled;
+        let filled = award_sheet_parts::refusals::put_faulty(&mut *self.out, at, line);
+        Writer {
+            out: self.out,
+            filled,
+        }
     }
-}
 
-// How many bytes are filled. The buffer stays as it is.
-pub fn filled<'a>(w: Writer<'a>) -> usize
-    ensures { (result ≡ w.entry.filled) × (w.exit.0.now ≡ w.entry.out.now) }
-{
-    w.filled
+    // How many bytes are filled. The buffer stays as it is.
+    pub fn filled(self) -> usize
+        ensures { (result ≡ self.entry.filled) × (self.exit.0.now ≡ self.entry.out.now) }
+    {
+        self.filled
+    }
 }
