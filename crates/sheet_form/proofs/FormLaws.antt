@@ -18,7 +18,7 @@ use Rattle.sheet_lines.specs.Lines.{title_word, kind_byte, is_kind, long_if, kin
 use Rattle.sheet_lines.specs.declared.part.Part.{Part}
 use Rattle.sheet_lines.specs.declared.part.Part.TheVariants.{Bidders, Paths, Bids}
 use Rattle.sheet_lines.specs.declared.part.Step.{Step}
-use Rattle.sheet_form.specs.Form.{Form, well_formed, faulty_at, line_then, lines_at, section_at, section_whole, parts_of, if_whole, form_from, sheet_kind, form_of, SectionIs, FaultIn}
+use Rattle.sheet_form.specs.Form.{SheetForm, well_formed, faulty_at, line_then, lines_at, section_at, section_whole, parts_of, if_whole, form_from, sheet_kind, form_of, SectionIs, FaultIn}
 use Rattle.sheet_form.specs.Sheet.{rounds_of}
 use Rattle.sheet_form.specs.declared.form.Read.{Read}
 use Rattle.sheet_form.specs.declared.form.FaultyLine.{FaultyLine}
@@ -173,7 +173,8 @@ before-end bytes at line inside other =
 -- ---- A section before others
 
 -- a line of it is faulty: the form is the first such line
-pub form-faulty : {part : Part} {bytes : List ℕ} {from : Place} {fault : FaultyLine} (parts : List Part) → FaultIn part bytes from fault → Err fault ≡ form_from (part ∷ parts) from.line (drop from.at bytes)
+pub form-faulty :
+    {part : Part} {bytes : List ℕ} {from : Place} {fault : FaultyLine} (parts : List Part) → FaultIn part bytes from fault → Err fault ≡ form_from (part ∷ parts) from.line (drop from.at bytes)
 form-faulty {part} {bytes} {from} parts is =
     let text = drop from.at bytes in
     let next = from.line + (section_at part text).lines in
@@ -181,7 +182,9 @@ form-faulty {part} {bytes} {from} parts is =
     ∙ ap (λ (t : Bool). if_whole t next (form_from parts next (drop (section_at part text).used text))) (sym is.whole)
 
 -- all its lines are right: the form is that of what follows
-pub form-on : {part : Part} {bytes : List ℕ} {from next : Place} (parts : List Part) → SectionIs part bytes from next → form_from parts next.line (drop next.at bytes) ≡ form_from (part ∷ parts) from.line (drop from.at bytes)
+pub form-on :
+    {part : Part} {bytes : List ℕ} {from next : Place} (parts : List Part) → SectionIs part bytes from next
+    → form_from parts next.line (drop next.at bytes) ≡ form_from (part ∷ parts) from.line (drop from.at bytes)
 form-on {part} {bytes} {from} parts is =
     let text = drop from.at bytes in
     let next = from.line + (section_at part text).lines in
@@ -195,7 +198,7 @@ parts-of Long = refl
 
 -- bidders and paths that are right, and then the sections of bids
 pub form-sections :
-    {bytes : List ℕ} {from paths first : Place} {form : Form} (kind : Kind) → SectionIs Bidders bytes from paths → SectionIs Paths bytes paths first
+    {bytes : List ℕ} {from paths first : Place} {form : SheetForm} (kind : Kind) → SectionIs Bidders bytes from paths → SectionIs Paths bytes paths first
     → form ≡ form_from (replicate (rounds_of kind) Bids) first.line (drop first.at bytes) → form ≡ form_from (parts_of kind) from.line (drop from.at bytes)
 form-sections {bytes} {from} kind bidders paths is =
     let rounds = replicate (rounds_of kind) Bids in
@@ -219,7 +222,7 @@ title-long bytes title is some fits =
     omega (arith, is, parts.2)
 
 module _ (bytes : List ℕ) where
-  abbrev titled : Form
+  abbrev titled : SheetForm
   titled = if_whole (leb 1 (title_used bytes)) 1 (form_from (parts_of (sheet_kind bytes)) 2 (drop (title_used bytes) bytes))
 
   pub too_long : sheet_bytes < length bytes → faulty_at 0 ≡ form_of bytes
@@ -233,7 +236,8 @@ module _ (bytes : List ℕ) where
       (ap (λ (t : Bool). if_whole t 0 titled) (le-leb (length bytes) sheet_bytes short)
       ∙ ap (λ (t : Bool). if_whole t 1 (form_from (parts_of (sheet_kind bytes)) 2 (drop (title_used bytes) bytes))) (lt-leb 1 (title_used bytes) (omega (arith, none))))
 
-  pub with-title : (form : Form) → length bytes ≤ sheet_bytes → (title_used bytes ≡ 0 → ⊥) → form ≡ form_from (parts_of (sheet_kind bytes)) 2 (drop (title_used bytes) bytes) → form ≡ form_of bytes
+  pub with-title :
+      (form : SheetForm) → length bytes ≤ sheet_bytes → (title_used bytes ≡ 0 → ⊥) → form ≡ form_from (parts_of (sheet_kind bytes)) 2 (drop (title_used bytes) bytes) → form ≡ form_of bytes
   unfolding form_of
   with-title form short some is =
       is

@@ -20,7 +20,7 @@ use Rattle.text_fields.specs.Fields.{count_line, word_top}
 use Rattle.sheet_lines.specs.Lines.{title_used, part_word, line_at}
 use Rattle.sheet_lines.specs.declared.part.Part.{Part}
 use Rattle.sheet_lines.specs.declared.part.Part.TheVariants.{Bidders, Paths, Bids}
-use Rattle.sheet_form.specs.Form.{Form, well_formed, section_at, section_whole, parts_of, if_whole, form_from, sheet_kind, form_of}
+use Rattle.sheet_form.specs.Form.{SheetForm, well_formed, section_at, section_whole, parts_of, if_whole, form_from, sheet_kind, form_of}
 use Rattle.sheet_form.specs.Reading.{bidder_line_at, path_line_at, bid_in, section_says, after_part, rounds_at, at_bidders, at_paths, at_rounds, days_in, sheet_in}
 use Rattle.sheet_form.specs.declared.rows.BidderLine.{BidderLine}
 use Rattle.sheet_form.specs.declared.rows.PathLine.{PathLine}
@@ -36,12 +36,12 @@ use Rattle.sheet_form.proofs.TitleLaws.{title_text, title-some, title-kind, titl
 
 -- ---- Form
 
-abbrev is_right : Form → Bool
+abbrev is_right : SheetForm → Bool
 is_right (Ok found) = true
 is_right (Err line) = false
 
 -- if the form is right, then the test was true and the rest is right
-pub stands-right : (t : Bool) (line : ℕ) (rest : Form) → if_whole t line rest ≡ well_formed → (t ≡ true) × (rest ≡ well_formed)
+pub stands-right : (t : Bool) (line : ℕ) (rest : SheetForm) → if_whole t line rest ≡ well_formed → (t ≡ true) × (rest ≡ well_formed)
 stands-right true line rest h = (refl, h)
 stands-right false line rest h = absurd (false≢true (ap is_right h))
 

@@ -43,28 +43,28 @@ parts_of Short = Bidders ∷ Paths ∷ Bids ∷ []
 parts_of Long = Bidders ∷ Paths ∷ Bids ∷ Bids ∷ []
 
 -- a text is well-formed, or it has a first faulty line
-abbrev pub Form : Type 0
-Form = Result (Unit {0}) FaultyLine
+abbrev pub SheetForm : Type 0
+SheetForm = Result (Unit {0}) FaultyLine
 
-abbrev pub well_formed : Form
+abbrev pub well_formed : SheetForm
 well_formed = Ok tt
 
-abbrev pub faulty_at : ℕ → Form
+abbrev pub faulty_at : ℕ → SheetForm
 faulty_at line = Err (record { 0 = line })
 
 -- the form that was found, whatever else was found of a well-formed text
-abbrev pub form_only : {A : Type 0} → Result A FaultyLine → Form
+abbrev pub form_only : {A : Type 0} → Result A FaultyLine → SheetForm
 form_only (Ok x) = well_formed
 form_only (Err line) = Err line
 
 -- the rest of the form if the test is true, and otherwise the number of the faulty line
-abbrev pub if_whole : Bool → ℕ → Form → Form
+abbrev pub if_whole : Bool → ℕ → SheetForm → SheetForm
 if_whole true line rest = rest
 if_whole false line rest = faulty_at line
 
 -- rule 14.8: the line that is wrong, the place of one that is not there, or a line after the end; with the sections still to come and the number of
 -- the next line
-abbrev pub form_from : List Part → ℕ → List ℕ → Form
+abbrev pub form_from : List Part → ℕ → List ℕ → SheetForm
 form_from [] line text = if_whole (eqb (length text) 0) line well_formed
 form_from (part ∷ parts) line text =
     if_whole (section_whole part text) (line + (section_at part text).lines)
@@ -76,7 +76,7 @@ sheet_kind text = kind_of_byte (get_or text kind_place 0)
 
 -- rules 14.1 and 14.8: more than 16,384 bytes are a fault of line 0, a wrong title one of line 1; the sections follow from line 2 on.
 -- rule 14.5: this alone is form; all else is left to the calls
-unfoldable pub form_of : List ℕ → Form
+unfoldable pub form_of : List ℕ → SheetForm
 form_of text =
     if_whole (leb (length text) sheet_bytes) 0
     (if_whole (leb 1 (title_used text)) 1 (form_from (parts_of (sheet_kind text)) 2 (drop (title_used text) text)))

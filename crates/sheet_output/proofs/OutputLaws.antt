@@ -9,7 +9,7 @@ use borrow.Author.Tests.{le-leb, lt-leb}
 use Rattle.market.specs.Limits.{award_sheet_bytes}
 use Rattle.text_numbers.proofs.PutLaws.{put_is}
 use Rattle.text_numbers.specs.Put.{Put}
-use Rattle.sheet_form.specs.Form.{Form, well_formed, faulty_at, form_of}
+use Rattle.sheet_form.specs.Form.{SheetForm, well_formed, faulty_at, form_of}
 use Rattle.sheet_form.specs.Reading.{sheet_in}
 use Rattle.market.specs.Answers.{form_refusal}
 use Rattle.award_sheet_parts.specs.AwardSheet.{refused_line}
@@ -19,11 +19,11 @@ use Rattle.sheet_output.specs.declared.Reply.TheVariants.{Written, Refused}
 -- the output by the form that was found
 pub right-output : (text : List ℕ) → form_of text ≡ well_formed → output_of text ≡ sheet_output (sheet_in text)
 unfolding output_of
-right-output text form = ap (λ (f : Form). by_form f (sheet_output (sheet_in text))) form
+right-output text form = ap (λ (f : SheetForm). by_form f (sheet_output (sheet_in text))) form
 
 pub faulty-output : (text : List ℕ) {line : ℕ} → form_of text ≡ faulty_at line → output_of text ≡ refused_line form_refusal line
 unfolding output_of
-faulty-output text form = ap (λ (f : Form). by_form f (sheet_output (sheet_in text))) form
+faulty-output text form = ap (λ (f : SheetForm). by_form f (sheet_output (sheet_in text))) form
 
 module _ (text out : List ℕ) where
   -- a buffer that is too short

@@ -28,7 +28,7 @@ use Rattle.round_bids.specs.Encoding.{encoded}
 use Rattle.sheet_lines.specs.declared.part.Part.TheVariants.{Bidders, Paths, Bids}
 use Rattle.sheet_form.proofs.WordLaws.{words-few}
 use Rattle.sheet_form.proofs.RightLaws.{first-rises, first-words, second-words, bidders-rise, few-bidders}
-use Rattle.sheet_form.specs.Form.{Form, well_formed, faulty_at, form_of, sheet_kind}
+use Rattle.sheet_form.specs.Form.{SheetForm, well_formed, faulty_at, form_of, sheet_kind}
 use Rattle.sheet_form.specs.Reading.{sheet_in, bidder_line_at, path_line_at, section_says, part_at, after_part, rounds_at, at_bidders, at_paths, at_rounds, days_in}
 use Rattle.sheet_form.specs.Sheet.{rounds_of, right_bidders}
 use Rattle.sheet_form.specs.Words.{section_words}

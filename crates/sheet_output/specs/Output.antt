@@ -6,7 +6,7 @@ use Rattle.market.specs.declared.answer.Outcome.{Outcome}
 use Rattle.market.specs.declared.book.Period.{Period}
 use Rattle.text_numbers.specs.Put.{put_at}
 use Rattle.round_bids.specs.Encoding.{encoded}
-use Rattle.sheet_form.specs.Form.{Form, form_of}
+use Rattle.sheet_form.specs.Form.{SheetForm, form_of}
 use Rattle.sheet_form.specs.Reading.{sheet_in}
 use Rattle.sheet_form.specs.Sheet.{Sheet}
 use Rattle.sheet_calls.specs.Calls.{opened}
@@ -33,7 +33,7 @@ unfoldable pub sheet_output : Sheet → List ℕ
 sheet_output s = output_from (start s) (map (λ x. x.bidder) s.bidders) (map encoded s.rounds)
 
 -- rules 13.40 and 14.8: a sheet of faulty form has the one line `refused 40 line L`, and none of its calls is made
-abbrev pub by_form : Form → List ℕ → List ℕ
+abbrev pub by_form : SheetForm → List ℕ → List ℕ
 by_form (Ok found) output = output
 by_form (Err line) output = refused_line form_refusal line.0
 
