@@ -20,6 +20,6 @@ pub fn put_faulty(out: &mut [u8], at: usize, line: u32) -> usize
     ensures { Put out.old at (refused_line form_refusal line) out.new result }
 {
     let named = text_numbers::put_bytes(out, at, b"refused ");
-    let numbered = text_writing::put_field(out, named, Refusal::FORM as u64, text_fields::SPACE);
+    let numbered = text_writing::put_field(out, named, Refusal::Form as u64, text_fields::SPACE);
     text_writing::put_count(out, numbered, b"line", line as u64)
 }

@@ -69,12 +69,12 @@ pub default-lawful : (i : ℕ) (lists : Lists) → Lawful (default i) lists
 unfolding default
 default-lawful i lists =
     record {
-      lent-numbers = λ b es. refl;
-      own-numbers = λ b es. refl;
+      lent-rows = λ b es. refl;
+      own-rows = λ b es. refl;
       answers = λ b es. refl;
       paths = λ b es. refl;
-      none_in = λ n. refl;
-      none_out = λ n. refl;
+      none_in = λ r. refl;
+      none_out = λ r. refl;
       few = λ b es sound clear. (omega arith, omega arith);
       keeps = λ b es state clear. default-keeps b es i state (defaulting b i clear.own);
       moves = λ b es state clear. default-moves b es i state (defaulting b i clear.own);

@@ -4,6 +4,7 @@ use Rattle.market.specs.Answers.{Row, ◌gives◌, drawn}
 use Rattle.market.specs.Books.{cents, bidder_of, value_of, held_of, with_bidder, with_account, with_entries}
 use Rattle.market.specs.Limits.{bidder_limit, step_limit}
 use Rattle.market.specs.Sound.{sound_account, is_idle}
+use Rattle.market.specs.declared.answer.Refusal.{Refusal}
 use Rattle.market.specs.declared.book.Bidder.{Bidder}
 use Rattle.market.specs.declared.book.Book.{Book}
 use Rattle.market.specs.declared.book.Entry.{Entry}
@@ -28,10 +29,10 @@ account_forfeited b i = b.account.0 +ℤ pos (forfeit_of (bidder_of b i))
 -- rules 8.4, 13.20, 13.10, 13.24 and 13.31, in the order of the rows: only a bidder that owes something defaults
 abbrev pub default_refusals : Book → ℕ → List Row
 default_refusals b i =
-    (not (is_idle b.stage) gives 20)
-    ∷ (not (ltb i bidder_limit) gives 10)
-    ∷ (eqb (bidder_of b i).owed.0 0 gives 24)
-    ∷ (not (sound_account (account_forfeited b i)) gives 31)
+    (not (is_idle b.stage) gives Refusal.Stage)
+    ∷ (not (ltb i bidder_limit) gives Refusal.Bidder)
+    ∷ (eqb (bidder_of b i).owed.0 0 gives Refusal.NothingDue)
+    ∷ (not (sound_account (account_forfeited b i)) gives Refusal.Account)
     ∷ []
 
 -- rule 8.7: the bidder after a default

@@ -4,7 +4,7 @@ ghost use Rattle.market.specs.Answers.{first_of};
 ghost use Rattle.market.specs.Books.{cents};
 ghost use Rattle.market.specs.Limits.{bidder_limit, step_limit};
 ghost use Rattle.market.specs.Sound.{sound_book, BidderBounds};
-ghost use Rattle.call_rules.specs.Steps.{refusal_of};
+ghost use Rattle.call_rules.specs.Steps.{verdict_of};
 ghost use Rattle.call_default.specs.Default.{forfeit_of, draw_of, default_refusals, default, defaulted, book_forfeited};
 
 use market::answer::Refusal;
@@ -87,39 +87,36 @@ fn defaulted_bidder(bidder: Bidder) -> Bidder
     }
 }
 
-// The first of default's refusals after 1 and 2; 0 where there is none.
-fn own_refusal(book: Book, bidder: u32) -> u32
+// Default's refusals after 1 and 2.
+fn check_own(book: Book, bidder: u32) -> Result<(), Refusal>
     requires { sound_book book ≡ true }
     ensures { result ≡ first_of (default_refusals book bidder) }
 {
     let stage = book.stage;
     if !book_parts::is_idle(stage) {
-        return Refusal::STAGE;
+        return Err(Refusal::Stage);
     }
     if bidder as usize >= Engine::BIDDERS {
-        return Refusal::BIDDER;
+        return Err(Refusal::Bidder);
     }
     let debtor = book_parts::bidder(book, bidder);
     let owed = debtor.owed;
     if owed.0 == 0 {
-        return Refusal::NOTHING_DUE;
+        return Err(Refusal::NothingDue);
     }
     let account = book.account;
     if !book_account::sound(book_account::plus(account, forfeit(debtor))) {
-        return Refusal::ACCOUNT;
+        return Err(Refusal::Account);
     }
-    Refusal::NONE
+    Ok(())
 }
 
-// The refusal of default, 0 where there is none.
-pub fn refusal(book: Book, words: &[u32], bidder: u32) -> u32
-    ensures { result ≡ refusal_of (default bidder) book words.now }
+// Whether default is refused.
+pub fn check(book: Book, words: &[u32], bidder: u32) -> Result<(), Refusal>
+    ensures { result ≡ verdict_of (default bidder) book words.now }
 {
-    let number = register_sound::refusal(book, words);
-    if number != Refusal::NONE {
-        return number;
-    }
-    own_refusal(book, bidder)
+    register_sound::check(book, words)?;
+    check_own(book, bidder)
 }
 
 // The book after a bidder's forfeit has gone to the account; the register's count is as before.

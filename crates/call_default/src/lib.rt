@@ -7,7 +7,7 @@ ghost use Rattle.std.specs.Prelude.{◌≡◌};
 ghost use Rattle.call_rules.specs.Steps.{outcome_of, words_after};
 ghost use Rattle.call_default.specs.Default as defaults;
 
-use market::answer::{Answer, Outcome, Refusal};
+use market::answer::{Answer, Outcome};
 use market::book::Book;
 use register::Removal;
 
@@ -16,10 +16,9 @@ pub fn default(book: Book, words: &mut [u32], bidder: u32) -> Outcome
     ensures outcome { result ≡ outcome_of (defaults.default bidder) book words.old }
     ensures words { words.new ≡ words_after (defaults.default bidder) book words.old }
 {
-    let number = default_parts::refusal(book, words, bidder);
-    if number != Refusal::NONE {
+    if let Err(refusal) = default_parts::check(book, words, bidder) {
         return Outcome {
-            answer: Answer::Refused(number),
+            answer: Err(refusal),
             book,
         };
     }
@@ -27,7 +26,7 @@ pub fn default(book: Book, words: &mut [u32], bidder: u32) -> Outcome
     let count = book.entries;
     let left = register_entries::remove(words, count, Removal::PendingOf(bidder));
     Outcome {
-        answer: Answer::Drawn(drawn),
+        answer: Ok(Answer::Drawn(drawn)),
         book: book_parts::with_entries(default_parts::book_forfeited(book, bidder), left),
     }
 }

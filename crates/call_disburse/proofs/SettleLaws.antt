@@ -2,20 +2,21 @@
 use mathlib.Core.Path.{◌≡◌, refl, sym, ◌∙◌, ap}
 use mathlib.Core.Bool.{true}
 use mathlib.Core.List.{List}
-use Prim.Native.Nat.{ℕ, suc}
+use Prim.Native.Nat.{ℕ}
 use native.Mathlib.Omega.{arith}
 use lib.IntN.{pos, ◌+ℤ◌, ◌-ℤ◌}
 use lib.ListN.{take}
 use borrow.Author.Tests.{not-false}
 use Rattle.market.proofs.SoundLaws.{sound-parts}
 use Rattle.market.proofs.Tables.{none-hold, neither-holds}
-use Rattle.market.specs.Answers.{first_of}
+use Rattle.market.specs.Answers.{first_of, no_refusal}
 use Rattle.market.specs.Books.{with_account, with_front}
 use Rattle.market.specs.Limits.{bidder_limit}
 use Rattle.market.specs.Sound.{sound_account}
 use Rattle.market.specs.declared.book.Book.{Book}
 use Rattle.market.specs.declared.book.Entry.{Entry}
 use Rattle.market.specs.declared.units.Cents.{Cents}
+use Rattle.market.specs.declared.answer.Refusal.{Refusal}
 use Rattle.lent_lists.proofs.Written.{put-listed}
 use Rattle.pool_sharing.specs.Sharing.{total}
 use Rattle.pool_columns.specs.Pools.{shares_of, column_refusals}
@@ -38,26 +39,26 @@ bound-sound Out b d sound h = taken-sound b.account.0 d.0 sound h
 bound-sound In b d sound h = added-sound b.account.0 d.0 sound h
 
 -- no money moves with a refusal
-none_in : (flow : Flow) (n : ℕ) (lists : Lists) → shares_in flow (refused_with (suc n) lists) ≡ 0
-none_in Out n lists = refl
-none_in In n lists = refl
+none_in : (flow : Flow) (r : Refusal) (lists : Lists) → shares_in flow (refused_with r lists) ≡ 0
+none_in Out r lists = refl
+none_in In r lists = refl
 
-none_out : (flow : Flow) (n : ℕ) (lists : Lists) → shares_out flow (refused_with (suc n) lists) ≡ 0
-none_out Out n lists = refl
-none_out In n lists = refl
+none_out : (flow : Flow) (r : Refusal) (lists : Lists) → shares_out flow (refused_with r lists) ≡ 0
+none_out Out r lists = refl
+none_out In r lists = refl
 
 module _ (d : Cents) (l : PoolLists) (lists : Lists) where
   -- where no row holds: the account is within its bound, the columns are not refused, and the list tells the total
   module _ (flow : Flow) (b : Book) (es : List Entry) (clear : Cleared ((settle flow d l).on b es)) where
-    own-parts : (first_of (total_refusals flow b d) ≡ 0) × (first_of (column_refusals d.0 (columns_of l)) ≡ 0)
+    own-parts : (first_of (total_refusals flow b d) ≡ no_refusal) × (first_of (column_refusals d.0 (columns_of l)) ≡ no_refusal)
     unfolding settle
-    own-parts = neither-holds (total_refusals flow b d) (column_refusals d.0 (columns_of l)) refl clear.own
+    own-parts = neither-holds (total_refusals flow b d) (column_refusals d.0 (columns_of l)) clear.own
 
     settle-keeps : SoundState b es → SoundState (with_account b (account_after_flow flow b d)) es
     settle-keeps state =
         let bound = within_bound flow (account_after_flow flow b d) in
         account-kept b es (account_after_flow flow b d) state
-        (bound-sound flow b d (sound-parts b state.sound).account (not-false bound (none-hold (total_refusals flow b d) refl own-parts.0).1.1.0))
+        (bound-sound flow b d (sound-parts b state.sound).account (not-false bound (none-hold (total_refusals flow b d) own-parts.0).1.1.0))
 
     -- the first 32 words of the list that is left are the shares, which add up to the total
     listed-total : total (take bidder_limit (with_front (shares_of d.0 (columns_of l)) lists.amounts)) ≡ d.0
@@ -80,8 +81,8 @@ module _ (d : Cents) (l : PoolLists) (lists : Lists) where
   unfolding settle
   settle-lawful flow =
       record {
-        lent-numbers = λ b es. refl;
-        own-numbers = λ b es. refl;
+        lent-rows = λ b es. refl;
+        own-rows = λ b es. refl;
         answers = λ b es. refl;
         paths = λ b es. refl;
         none_in = λ n. none_in flow n lists;

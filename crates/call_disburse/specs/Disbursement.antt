@@ -6,6 +6,7 @@ use Rattle.market.specs.Books.{with_account}
 use Rattle.market.specs.Limits.{bidder_limit, pool_limit, reserve}
 use Rattle.market.specs.declared.book.Book.{Book}
 use Rattle.market.specs.declared.units.Cents.{Cents}
+use Rattle.market.specs.declared.answer.Refusal.{Refusal}
 use Rattle.pool_columns.specs.Pools.{shares_of, column_refusals}
 use Rattle.pool_columns.specs.declared.Columns.{Columns}
 use Rattle.call_rules.specs.Money.{nothing}
@@ -70,14 +71,14 @@ within_bound In after = le_z after (pos 0)
 
 -- rule 13.1: one of the five lists is too short
 abbrev pub short_pool_lists : PoolLists → List Row
-short_pool_lists l = (not (all_long_enough l) gives 1) ∷ []
+short_pool_lists l = (not (all_long_enough l) gives Refusal.ShortBuffer) ∷ []
 
 -- rules 11.1 and 13.32: D is 0, or above its limit, or would leave the account as it may not be
 abbrev pub total_refusals : Flow → Book → Cents → List Row
 total_refusals flow b d =
-    (eqb d.0 0 gives 32)
-    ∷ (not (leb d.0 pool_limit) gives 32)
-    ∷ (not (within_bound flow (account_after_flow flow b d)) gives 32)
+    (eqb d.0 0 gives Refusal.Total)
+    ∷ (not (leb d.0 pool_limit) gives Refusal.Total)
+    ∷ (not (within_bound flow (account_after_flow flow b d)) gives Refusal.Total)
     ∷ []
 
 -- ---- The calls

@@ -33,21 +33,20 @@ pub fn settle(
 {
     if !columns::all_long_enough(provincial, export, meters, interties, shares) {
         return Outcome {
-            answer: Answer::Refused(Refusal::SHORT_BUFFER),
+            answer: Err(Refusal::ShortBuffer),
             book,
         };
     }
     let columns = columns::columns_of(provincial, export, meters, interties);
-    let number = parts::refusal(flow, book, total, columns);
-    if number != Refusal::NONE {
+    if let Err(refusal) = parts::check(flow, book, total, columns) {
         return Outcome {
-            answer: Answer::Refused(number),
+            answer: Err(refusal),
             book,
         };
     }
     lent_lists::write_amounts(pool_columns::shares_of(total, columns), shares);
     Outcome {
-        answer: Answer::Done,
+        answer: Ok(Answer::Done),
         book: parts::moved(flow, book, total),
     }
 }

@@ -38,34 +38,31 @@ fn within_bound(flow: Flow, after: Balance) -> bool
     }
 }
 
-// The refusal of the book or the total, 0 where there is none.
-fn total_refusal(flow: Flow, book: Book, total: Cents) -> u32
+// Whether the book or the total is refused.
+fn check_total(flow: Flow, book: Book, total: Cents) -> Result<(), Refusal>
     ensures { result ≡ first_of (unsound_book book ∷ total_refusals flow book total) }
 {
     if !book_sound::sound_book(book) {
-        return Refusal::UNSOUND;
+        return Err(Refusal::Unsound);
     }
     if total.0 == 0 {
-        return Refusal::TOTAL;
+        return Err(Refusal::Total);
     }
     if total.0 > Engine::POOL_LIMIT {
-        return Refusal::TOTAL;
+        return Err(Refusal::Total);
     }
     if !within_bound(flow, account_after(flow, book, total)) {
-        return Refusal::TOTAL;
+        return Err(Refusal::Total);
     }
-    Refusal::NONE
+    Ok(())
 }
 
-// The refusal of a call whose lists are long enough, 0 where there is none.
-pub fn refusal(flow: Flow, book: Book, total: Cents, columns: Columns) -> u32
+// Whether a call whose lists are long enough is refused.
+pub fn check(flow: Flow, book: Book, total: Cents, columns: Columns) -> Result<(), Refusal>
     ensures { result ≡ first_of (unsound_book book ∷ (total_refusals flow book total ++ column_refusals total.0 columns)) }
 {
-    let number = total_refusal(flow, book, total);
-    if number != Refusal::NONE {
-        return number;
-    }
-    pool_columns::refusal(total, columns)
+    check_total(flow, book, total)?;
+    pool_columns::check(total, columns)
 }
 
 // The book after a total is disbursed or recovered.

@@ -1,6 +1,6 @@
 -- Calls one after another, and deposits bidder by bidder, as `deposit_each` makes them.
 use mathlib.Core.Path.{◌≡◌, refl, sym, ◌∙◌, ap}
-use mathlib.Core.Bool.{Bool, true, false}
+use mathlib.Core.Bool.{Bool, true, false, false≢true}
 use mathlib.Core.List.{List, ◌∷◌, map}
 use Prim.Native.Nat.{ℕ, zero, suc, ◌+◌, ◌≤◌, ◌<◌, min}
 use native.Mathlib.Numerals.{add-one}
@@ -9,9 +9,12 @@ use lib.Dec.{leb}
 use lib.ListN.{length, get_or, take, drop, length-map, drop_of_length-le}
 use lib.Seq.{length-take-le, take_all, drop-cons, get_or-take}
 use borrow.Author.Tests.{leb-true, leb-false}
-use Rattle.market.specs.Answers.{answer_number, answered}
+use Rattle.std.specs.Prelude.{Result, Ok, Err, is_err}
+use Rattle.market.specs.Answers.{answered}
 use Rattle.market.specs.Books.{cents}
+use Rattle.market.specs.declared.answer.Answer.{Answer}
 use Rattle.market.specs.declared.answer.Outcome.{Outcome}
+use Rattle.market.specs.declared.answer.Refusal.{Refusal}
 use Rattle.market.specs.declared.book.Book.{Book}
 use Rattle.call_rules.specs.Steps.{no_register, outcome_of}
 use Rattle.call_funding.specs.Deposit.{deposit}
@@ -22,27 +25,25 @@ use Rattle.call_funding.specs.declared.Funds.TheVariants.{Cash, Letter}
 
 -- ---- A call after others
 
-unless-refused : (n : ℕ) (done next : Outcome) → (n ≡ 0 → ⊥) → done ≡ unless_refused n done next
-unless-refused zero done next some = absurd (some refl)
-unless-refused (suc n) done next some = refl
+unless-refused : (a : Result Answer Refusal) (done next : Outcome) → is_err a ≡ true → done ≡ unless_refused a done next
+unless-refused (Ok answer) done next some = absurd (false≢true some)
+unless-refused (Err refusal) done next some = refl
 
-unless-answered : (n : ℕ) (done next : Outcome) → n ≡ 0 → next ≡ unless_refused n done next
-unless-answered zero done next none = refl
-unless-answered (suc n) done next none = absurd (let clash : ⊥ = omega (arith, none) in clash)
+unless-answered : (a : Result Answer Refusal) (done next : Outcome) → is_err a ≡ false → next ≡ unless_refused a done next
+unless-answered (Ok answer) done next none = refl
+unless-answered (Err refusal) done next none = absurd (false≢true (sym none))
 
-module _ (done first : Outcome) (made : done ≡ first) (next : Book → Outcome) (n : ℕ) (is : n ≡ answer_number done.answer) where
-  abbrev made_then : unless_refused n done (next done.book) ≡ and_then first next
-  made_then =
-      ap (λ (m : ℕ). unless_refused m done (next done.book)) is
-      ∙ ap (λ (o : Outcome). and_then o next) made
+module _ (done first : Outcome) (made : done ≡ first) (next : Book → Outcome) where
+  abbrev made_then : unless_refused done.answer done (next done.book) ≡ and_then first next
+  made_then = ap (λ (o : Outcome). and_then o next) made
 
   -- a call that is refused ends them
-  pub then-refused : (n ≡ 0 → ⊥) → done ≡ and_then first next
-  then-refused some = unless-refused n done (next done.book) some ∙ made_then
+  pub then-refused : is_err done.answer ≡ true → done ≡ and_then first next
+  then-refused some = unless-refused done.answer done (next done.book) some ∙ made_then
 
   -- after one that is answered the next is made
-  pub then_next : n ≡ 0 → next done.book ≡ and_then first next
-  then_next none = unless-answered n done (next done.book) none ∙ made_then
+  pub then_next : is_err done.answer ≡ false → next done.book ≡ and_then first next
+  then_next none = unless-answered done.answer done (next done.book) none ∙ made_then
 
 -- ---- A deposit
 
@@ -56,15 +57,15 @@ some-deposited (suc n) b bidder to some = refl
 
 -- ---- The deposits of a bidder
 
-module _ (b : Book) (x : BidderDeposits) (o : Outcome) (made : o ≡ deposit_if x.cash.0 b x.bidder Cash) (n : ℕ) (is : n ≡ answer_number o.answer) where
+module _ (b : Book) (x : BidderDeposits) (o : Outcome) (made : o ≡ deposit_if x.cash.0 b x.bidder Cash) where
   abbrev letter : Book → Outcome
   letter after = deposit_if x.letter.0 after x.bidder Letter
 
-  pub cash-refused : (n ≡ 0 → ⊥) → o ≡ bidder_deposits b x
-  cash-refused some = then-refused o (deposit_if x.cash.0 b x.bidder Cash) made letter n is some
+  pub cash-refused : is_err o.answer ≡ true → o ≡ bidder_deposits b x
+  cash-refused some = then-refused o (deposit_if x.cash.0 b x.bidder Cash) made letter some
 
-  pub cash-made : n ≡ 0 → letter o.book ≡ bidder_deposits b x
-  cash-made none = then_next o (deposit_if x.cash.0 b x.bidder Cash) made letter n is none
+  pub cash-made : is_err o.answer ≡ false → letter o.book ≡ bidder_deposits b x
+  cash-made none = then_next o (deposit_if x.cash.0 b x.bidder Cash) made letter none
 
 -- ---- Bidder by bidder
 
@@ -90,7 +91,7 @@ module _ (b : Book) (bidders : List BidderDeposits) (count : ℕ) (now : Book) (
       ∙ ap (list_deposits now)
       (drop_of_length-le (take count bidders) (let e : length (take count bidders) ≤ i = omega (arith, length-take-le count bidders s.room) in e)))
 
-  module _ (d : BidderDeposits) (o : Outcome) (made : o ≡ bidder_deposits now (get_or bidders i d)) (n : ℕ) (is : n ≡ answer_number o.answer) (below : i < count) where
+  module _ (d : BidderDeposits) (o : Outcome) (made : o ≡ bidder_deposits now (get_or bidders i d)) (below : i < count) where
     one : list_deposits b (take count bidders) ≡ and_then (bidder_deposits now (get_or bidders i d)) (λ (after : Book). list_deposits after (drop (i + 1) (take count bidders)))
     one =
         s.rest
@@ -100,16 +101,16 @@ module _ (b : Book) (bidders : List BidderDeposits) (count : ℕ) (now : Book) (
         ∙ ap (λ (k : ℕ). get_or bidders i d ∷ drop k (take count bidders)) (sym (add-one i)))
 
     -- a deposit of the bidder here is refused
-    pub bidder-refused : (n ≡ 0 → ⊥) → o ≡ list_deposits b (take count bidders)
-    bidder-refused some = then-refused o (bidder_deposits now (get_or bidders i d)) made (λ (after : Book). list_deposits after (drop (i + 1) (take count bidders))) n is some ∙ sym one
+    pub bidder-refused : is_err o.answer ≡ true → o ≡ list_deposits b (take count bidders)
+    bidder-refused some = then-refused o (bidder_deposits now (get_or bidders i d)) made (λ (after : Book). list_deposits after (drop (i + 1) (take count bidders))) some ∙ sym one
 
     -- the bidder here is passed
-    pub bidder-done : n ≡ 0 → DepositsTo b bidders count o.book (i + 1)
+    pub bidder-done : is_err o.answer ≡ false → DepositsTo b bidders count o.book (i + 1)
     bidder-done none =
         record {
           within = omega arith;
           room = s.room;
-          rest = one ∙ sym (then_next o (bidder_deposits now (get_or bidders i d)) made (λ (after : Book). list_deposits after (drop (i + 1) (take count bidders))) n is none);
+          rest = one ∙ sym (then_next o (bidder_deposits now (get_or bidders i d)) made (λ (after : Book). list_deposits after (drop (i + 1) (take count bidders))) none);
         }
 
 -- ---- The bidders listed

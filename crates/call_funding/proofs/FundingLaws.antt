@@ -106,12 +106,12 @@ module _ (i : ℕ) (funds : Funds) (amount : Cents) (lists : Lists) where
   unfolding deposit
   deposit-lawful =
       record {
-        lent-numbers = λ b es. refl;
-        own-numbers = λ b es. refl;
+        lent-rows = λ b es. refl;
+        own-rows = λ b es. refl;
         answers = λ b es. refl;
         paths = λ b es. refl;
-        none_in = λ n. refl;
-        none_out = λ n. refl;
+        none_in = λ r. refl;
+        none_out = λ r. refl;
         few = λ b es sound clear. (omega arith, omega arith);
         keeps = λ b es state clear. deposit-keeps b es i funds amount state (deposit-cleared b i funds amount clear.own).1;
         moves = λ b es state clear. deposit-moves b es i funds amount state (deposit-cleared b i funds amount clear.own).0;
@@ -121,12 +121,12 @@ module _ (i : ℕ) (funds : Funds) (amount : Cents) (lists : Lists) where
   unfolding withdraw
   withdraw-lawful =
       record {
-        lent-numbers = λ b es. refl;
-        own-numbers = λ b es. refl;
+        lent-rows = λ b es. refl;
+        own-rows = λ b es. refl;
         answers = λ b es. refl;
         paths = λ b es. refl;
-        none_in = λ n. refl;
-        none_out = λ n. refl;
+        none_in = λ r. refl;
+        none_out = λ r. refl;
         few = λ b es sound clear. (omega arith, omega arith);
         keeps = λ b es state clear. withdraw-keeps b es i funds amount state (withdraw-cleared b i funds amount clear.own).1;
         moves =

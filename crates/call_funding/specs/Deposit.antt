@@ -3,6 +3,7 @@ use Rattle.std.specs.Prelude.{Bool, not, List, [], ◌∷◌, ◌++◌, ℕ, ◌
 use Rattle.market.specs.Answers.{Row, ◌gives◌}
 use Rattle.market.specs.Books.{held_of, bidder_of, with_cash, with_letter}
 use Rattle.market.specs.Limits.{money_limit}
+use Rattle.market.specs.declared.answer.Refusal.{Refusal}
 use Rattle.market.specs.declared.book.Bidder.{Bidder}
 use Rattle.market.specs.declared.book.Book.{Book}
 use Rattle.market.specs.declared.units.Cents.{Cents}
@@ -20,7 +21,7 @@ has_room x Letter amount = leb (x.letter.0 + amount.0) money_limit
 -- rules 13.10 and 13.11: the rows of both calls, and then a deposit past its limit
 abbrev pub deposit_refusals : Book → ℕ → Funds → Cents → List Row
 deposit_refusals b i to amount =
-    funding_refusals i amount ++ (not (has_room (bidder_of b i) to amount) gives 11) ∷ []
+    funding_refusals i amount ++ (not (has_room (bidder_of b i) to amount) gives Refusal.Amount) ∷ []
 
 -- rule 5.2: the bidder with the amount added to its cash, or to its letter
 abbrev pub with_deposit : Bidder → Funds → Cents → Bidder

@@ -1,8 +1,10 @@
 -- Deposits one after another, by the rule of each, as a sheet makes them for its bidders: rules 14.6 and 14.7.
-use Rattle.std.specs.Prelude.{Bool, ◌&&◌, List, [], ◌∷◌, ℕ, zero, suc, eqb}
-use Rattle.market.specs.Answers.{answer_number, answered}
+use Rattle.std.specs.Prelude.{Result, Ok, Err, Bool, ◌&&◌, List, [], ◌∷◌, ℕ, zero, suc, eqb}
+use Rattle.market.specs.Answers.{answered}
 use Rattle.market.specs.Books.{cents}
+use Rattle.market.specs.declared.answer.Answer.{Answer}
 use Rattle.market.specs.declared.answer.Outcome.{Outcome}
+use Rattle.market.specs.declared.answer.Refusal.{Refusal}
 use Rattle.market.specs.declared.book.Book.{Book}
 use Rattle.call_rules.specs.Steps.{no_register, outcome_of}
 use Rattle.call_funding.specs.Deposit.{deposit}
@@ -11,12 +13,12 @@ use Rattle.call_funding.specs.declared.Funds.TheVariants.{Cash, Letter}
 use Rattle.call_funding.specs.declared.BidderDeposits.{BidderDeposits}
 
 -- rule 14.7: a call after others is made only if they were answered
-abbrev pub unless_refused : ℕ → Outcome → Outcome → Outcome
-unless_refused zero done next = next
-unless_refused (suc n) done next = done
+abbrev pub unless_refused : Result Answer Refusal → Outcome → Outcome → Outcome
+unless_refused (Ok answer) done next = next
+unless_refused (Err refusal) done next = done
 
 abbrev pub and_then : Outcome → (Book → Outcome) → Outcome
-and_then done next = unless_refused (answer_number done.answer) done (next done.book)
+and_then done next = unless_refused done.answer done (next done.book)
 
 -- rule 14.6: no deposit is made where the amount is 0
 abbrev pub deposit_if : ℕ → Book → ℕ → Funds → Outcome

@@ -2,6 +2,7 @@
 use Rattle.std.specs.Prelude.{not, List, [], ◌∷◌, ◌++◌, ℕ, ◌-◌, leb}
 use Rattle.market.specs.Answers.{Row, ◌gives◌}
 use Rattle.market.specs.Books.{bidder_of, with_cash, with_letter}
+use Rattle.market.specs.declared.answer.Refusal.{Refusal}
 use Rattle.market.specs.declared.book.Bidder.{Bidder}
 use Rattle.market.specs.declared.book.Book.{Book}
 use Rattle.market.specs.declared.units.Cents.{Cents}
@@ -19,7 +20,7 @@ withdrawable x Letter = x.letter.0 - x.hold.0
 -- rules 13.10, 13.11 and 13.12: the rows of both calls, and then more than the bidder may take out
 abbrev pub withdraw_refusals : Book → ℕ → Funds → Cents → List Row
 withdraw_refusals b i from amount =
-    funding_refusals i amount ++ (not (leb amount.0 (withdrawable (bidder_of b i) from)) gives 12) ∷ []
+    funding_refusals i amount ++ (not (leb amount.0 (withdrawable (bidder_of b i) from)) gives Refusal.Withdrawal) ∷ []
 
 -- rule 5.3: the bidder with the amount taken off its cash, or off its letter
 abbrev pub debited : Bidder → Funds → Cents → Bidder

@@ -8,7 +8,7 @@ ghost use Rattle.call_funding.specs.Deposit.{deposit};
 ghost use Rattle.call_funding.specs.Deposits.{deposit_if, bidder_deposits, list_deposits, no_deposit};
 
 use crate::{BidderDeposits, Funds, parts};
-use market::answer::{Answer, Outcome, Refusal};
+use market::answer::{Answer, Outcome};
 use market::book::Book;
 use market::engine::Engine;
 use market::units::Cents;
@@ -18,16 +18,15 @@ pub fn deposit_sound(book: Book, bidder: u32, to: Funds, amount: Cents) -> Outco
     requires { sound_book book ≡ true }
     ensures { result ≡ outcome_of (deposit bidder to amount) book no_register }
 {
-    let number = parts::deposit_refusal(book, bidder, to, amount);
-    if number != Refusal::NONE {
+    if let Err(refusal) = parts::check_deposit(book, bidder, to, amount) {
         return Outcome {
-            answer: Answer::Refused(number),
+            answer: Err(refusal),
             book,
         };
     }
     let next = parts::credited_bidder(book_parts::bidder(book, bidder), to, amount);
     Outcome {
-        answer: Answer::Done,
+        answer: Ok(Answer::Done),
         book: book_parts::with_bidder(book, bidder, next),
     }
 }
@@ -39,7 +38,7 @@ fn deposit_if(book: Book, bidder: u32, to: Funds, amount: Cents) -> Outcome
 {
     if amount.0 == 0 {
         return Outcome {
-            answer: Answer::Done,
+            answer: Ok(Answer::Done),
             book,
         };
     }
@@ -52,8 +51,7 @@ fn deposit_both(book: Book, of: BidderDeposits) -> Outcome
     ensures { result ≡ bidder_deposits book of }
 {
     let cash = deposit_if(book, of.bidder, Funds::Cash, of.cash);
-    let first = cash.answer;
-    if first.number() != Refusal::NONE {
+    if cash.answer.is_err() {
         return cash;
     }
     deposit_if(cash.book, of.bidder, Funds::Letter, of.letter)
@@ -68,14 +66,13 @@ pub fn deposit_each(book: Book, bidders: [BidderDeposits; Engine::BIDDERS], coun
     let mut now = book;
     for i in 0..count {
         let outcome = deposit_both(now, bidders[i]);
-        let answer = outcome.answer;
-        if answer.number() != Refusal::NONE {
+        if outcome.answer.is_err() {
             return outcome;
         }
         now = outcome.book;
     }
     Outcome {
-        answer: Answer::Done,
+        answer: Ok(Answer::Done),
         book: now,
     }
 }

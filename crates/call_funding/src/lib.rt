@@ -45,7 +45,7 @@ pub fn deposit(book: Book, bidder: u32, to: Funds, amount: Cents) -> Outcome
 {
     if !book_sound::sound_book(book) {
         return Outcome {
-            answer: Answer::Refused(Refusal::UNSOUND),
+            answer: Err(Refusal::Unsound),
             book,
         };
     }
@@ -74,12 +74,12 @@ pub fn deposit_all(book: Book, list: DepositList) -> Outcome
     }
     if deposits::none_asked(bidders, count) {
         return Outcome {
-            answer: Answer::Done,
+            answer: Ok(Answer::Done),
             book,
         };
     }
     Outcome {
-        answer: Answer::Refused(Refusal::UNSOUND),
+        answer: Err(Refusal::Unsound),
         book,
     }
 }
@@ -89,16 +89,15 @@ fn withdraw_sound(book: Book, bidder: u32, from: Funds, amount: Cents) -> Outcom
     requires { sound_book book ≡ true }
     ensures { result ≡ outcome_of (withdrawals.withdraw bidder from amount) book no_register }
 {
-    let number = parts::withdraw_refusal(book, bidder, from, amount);
-    if number != Refusal::NONE {
+    if let Err(refusal) = parts::check_withdrawal(book, bidder, from, amount) {
         return Outcome {
-            answer: Answer::Refused(number),
+            answer: Err(refusal),
             book,
         };
     }
     let next = parts::debited_bidder(book_parts::bidder(book, bidder), from, amount);
     Outcome {
-        answer: Answer::Done,
+        answer: Ok(Answer::Done),
         book: book_parts::with_bidder(book, bidder, next),
     }
 }
@@ -109,7 +108,7 @@ pub fn withdraw(book: Book, bidder: u32, from: Funds, amount: Cents) -> Outcome
 {
     if !book_sound::sound_book(book) {
         return Outcome {
-            answer: Answer::Refused(Refusal::UNSOUND),
+            answer: Err(Refusal::Unsound),
             book,
         };
     }

@@ -29,17 +29,17 @@ fn with_letter(bidder: Bidder, letter: Cents) -> Bidder
     next
 }
 
-// The first of the refusals that deposit and withdraw have in common; 0 where there is none.
-fn common_refusal(bidder: u32, amount: Cents) -> u32
+// The refusals that deposit and withdraw have in common.
+fn check_common(bidder: u32, amount: Cents) -> Result<(), Refusal>
     ensures { result ≡ first_of (funding_refusals bidder amount) }
 {
     if bidder as usize >= Engine::BIDDERS {
-        return Refusal::BIDDER;
+        return Err(Refusal::Bidder);
     }
     if amount.0 == 0 {
-        return Refusal::AMOUNT;
+        return Err(Refusal::Amount);
     }
-    Refusal::NONE
+    Ok(())
 }
 
 fn has_room(bidder: Bidder, to: Funds, amount: Cents) -> bool
@@ -55,19 +55,16 @@ fn has_room(bidder: Bidder, to: Funds, amount: Cents) -> bool
     }
 }
 
-// The refusal of a deposit on a sound book, 0 where there is none.
-pub fn deposit_refusal(book: Book, bidder: u32, to: Funds, amount: Cents) -> u32
+// Whether a deposit on a sound book is refused.
+pub fn check_deposit(book: Book, bidder: u32, to: Funds, amount: Cents) -> Result<(), Refusal>
     requires { sound_book book ≡ true }
     ensures { result ≡ first_of (deposit_refusals book bidder to amount) }
 {
-    let number = common_refusal(bidder, amount);
-    if number != Refusal::NONE {
-        return number;
-    }
+    check_common(bidder, amount)?;
     if has_room(book_parts::bidder(book, bidder), to, amount) {
-        Refusal::NONE
+        Ok(())
     } else {
-        Refusal::AMOUNT
+        Err(Refusal::Amount)
     }
 }
 
@@ -98,20 +95,17 @@ fn withdrawable_of(bidder: Bidder, from: Funds) -> Cents
     }
 }
 
-// The refusal of a withdrawal from a sound book, 0 where there is none.
-pub fn withdraw_refusal(book: Book, bidder: u32, from: Funds, amount: Cents) -> u32
+// Whether a withdrawal from a sound book is refused.
+pub fn check_withdrawal(book: Book, bidder: u32, from: Funds, amount: Cents) -> Result<(), Refusal>
     requires { sound_book book ≡ true }
     ensures { result ≡ first_of (withdraw_refusals book bidder from amount) }
 {
-    let number = common_refusal(bidder, amount);
-    if number != Refusal::NONE {
-        return number;
-    }
+    check_common(bidder, amount)?;
     let most = withdrawable_of(book_parts::bidder(book, bidder), from);
     if amount.0 <= most.0 {
-        Refusal::NONE
+        Ok(())
     } else {
-        Refusal::WITHDRAWAL
+        Err(Refusal::Withdrawal)
     }
 }
 

@@ -104,12 +104,12 @@ pub open-lawful : (kind : Kind) (period : Period) (quantities : List ℕ) (lists
 unfolding «open»
 open-lawful kind period quantities lists =
     record {
-      lent-numbers = λ b es. refl;
-      own-numbers = λ b es. refl;
+      lent-rows = λ b es. refl;
+      own-rows = λ b es. refl;
       answers = λ b es. refl;
       paths = λ b es. refl;
-      none_in = λ n. refl;
-      none_out = λ n. refl;
+      none_in = λ r. refl;
+      none_out = λ r. refl;
       few = λ b es sound clear. (omega arith, omega arith);
       keeps = λ b es state clear. open-keeps b es kind period quantities state (openable b period quantities clear.own);
       moves = λ b es state clear. nothing-moved (worth b);

@@ -3,6 +3,7 @@ use Rattle.std.specs.Prelude.{not, List, [], ◌∷◌, ℕ, leb, length, take}
 use Rattle.market.specs.Answers.{Row, ◌gives◌, answered}
 use Rattle.market.specs.Books.{every, no_value, with_auction}
 use Rattle.market.specs.Sound.{sound_period, sound_quantity, is_idle}
+use Rattle.market.specs.declared.answer.Refusal.{Refusal}
 use Rattle.market.specs.declared.book.Book.{Book}
 use Rattle.market.specs.declared.book.Entry.{Entry}
 use Rattle.market.specs.declared.book.Kind.{Kind}
@@ -15,16 +16,16 @@ use Rattle.call_open.specs.OpenedPaths.{words_needed, opened_paths}
 
 -- rules 6.2 and 13.1: fewer quantities than four for each of the book's paths
 abbrev pub short_quantities : Book → List ℕ → List Row
-short_quantities b quantities = (not (leb (words_needed b) (length quantities)) gives 1) ∷ []
+short_quantities b quantities = (not (leb (words_needed b) (length quantities)) gives Refusal.ShortBuffer) ∷ []
 
 -- rules 6.1, 13.20, 13.21 and 13.25: an auction is open, or some bidder has a value; the period is not right; a quantity is too large, of either
 -- kind, where words past those of the book's paths are not read (rule 6.2)
 abbrev pub open_refusals : Book → Period → List ℕ → List Row
 open_refusals b period quantities =
-    (not (is_idle b.stage) gives 20)
-    ∷ (not (every no_value b.bidders) gives 20)
-    ∷ (not (sound_period period) gives 21)
-    ∷ (not (every sound_quantity (take (words_needed b) quantities)) gives 25)
+    (not (is_idle b.stage) gives Refusal.Stage)
+    ∷ (not (every no_value b.bidders) gives Refusal.Stage)
+    ∷ (not (sound_period period) gives Refusal.Days)
+    ∷ (not (every sound_quantity (take (words_needed b) quantities)) gives Refusal.Quantity)
     ∷ []
 
 -- rule 6.6: the paths have their offers, the stage is open at round 1, and all else stays

@@ -64,12 +64,12 @@ pub pay-lawful : (i : ℕ) (amount : Cents) (lists : Lists) → Lawful (pay i am
 unfolding pay
 pay-lawful i amount lists =
     record {
-      lent-numbers = λ b es. refl;
-      own-numbers = λ b es. refl;
+      lent-rows = λ b es. refl;
+      own-rows = λ b es. refl;
       answers = λ b es. refl;
       paths = λ b es. refl;
-      none_in = λ n. refl;
-      none_out = λ n. refl;
+      none_in = λ r. refl;
+      none_out = λ r. refl;
       few = λ b es sound clear. (omega arith, omega arith);
       keeps = λ b es state clear. pay-keeps b es i amount state (payable b i amount clear.own);
       moves = λ b es state clear. pay-moves b es i amount state (payable b i amount clear.own);

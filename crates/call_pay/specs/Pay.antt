@@ -4,6 +4,7 @@ use Rattle.market.specs.Answers.{Row, ◌gives◌, answered}
 use Rattle.market.specs.Books.{cents, bidder_of, value_of, no_value, with_bidder, with_account}
 use Rattle.market.specs.Limits.{bidder_limit}
 use Rattle.market.specs.Sound.{sound_account, is_idle}
+use Rattle.market.specs.declared.answer.Refusal.{Refusal}
 use Rattle.market.specs.declared.book.Bidder.{Bidder}
 use Rattle.market.specs.declared.book.Book.{Book}
 use Rattle.market.specs.declared.units.Cents.{Cents}
@@ -19,11 +20,11 @@ account_paid b i = b.account.0 +ℤ pos (value_of (bidder_of b i))
 -- rules 8.1, 13.20, 13.10, 13.13, 13.24 and 13.31, in the order of the rows: the amount must be what is owed, and 0 settles only a value above 0
 abbrev pub pay_refusals : Book → ℕ → Cents → List Row
 pay_refusals b i amount =
-    (not (is_idle b.stage) gives 20)
-    ∷ (not (ltb i bidder_limit) gives 10)
-    ∷ (not (eqb amount.0 (bidder_of b i).owed.0) gives 13)
-    ∷ (no_value (bidder_of b i) gives 24)
-    ∷ (not (sound_account (account_paid b i)) gives 31)
+    (not (is_idle b.stage) gives Refusal.Stage)
+    ∷ (not (ltb i bidder_limit) gives Refusal.Bidder)
+    ∷ (not (eqb amount.0 (bidder_of b i).owed.0) gives Refusal.Payment)
+    ∷ (no_value (bidder_of b i) gives Refusal.NothingDue)
+    ∷ (not (sound_account (account_paid b i)) gives Refusal.Account)
     ∷ []
 
 -- rule 8.2: the bidder after it has paid; the step of one at step 0 stays

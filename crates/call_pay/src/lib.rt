@@ -9,7 +9,7 @@ ghost use Rattle.market.specs.Books.{cents, value_of};
 ghost use Rattle.call_rules.specs.Steps.{outcome_of, words_after};
 ghost use Rattle.call_pay.specs.Pay as payments;
 
-use market::answer::{Answer, Outcome, Refusal};
+use market::answer::{Answer, Outcome};
 use market::book::{Bidder, Book};
 use market::units::Cents;
 
@@ -28,17 +28,16 @@ pub fn pay(book: Book, words: &mut [u32], bidder: u32, amount: Cents) -> Outcome
     ensures outcome { result ≡ outcome_of (payments.pay bidder amount) book words.old }
     ensures words { words.new ≡ words_after (payments.pay bidder amount) book words.old }
 {
-    let number = pay_parts::refusal(book, words, bidder, amount);
-    if number != Refusal::NONE {
+    if let Err(refusal) = pay_parts::check(book, words, bidder, amount) {
         return Outcome {
-            answer: Answer::Refused(number),
+            answer: Err(refusal),
             book,
         };
     }
     let count = book.entries;
     register_entries::issue(words, count, bidder);
     Outcome {
-        answer: Answer::Done,
+        answer: Ok(Answer::Done),
         book: pay_parts::book_paid(book, bidder),
     }
 }

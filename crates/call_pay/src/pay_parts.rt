@@ -3,7 +3,7 @@ ghost use Rattle.std.specs.Prelude.{◌≡◌, true, ◌-◌, ◌<◌};
 ghost use Rattle.market.specs.Answers.{first_of};
 ghost use Rattle.market.specs.Limits.{bidder_limit};
 ghost use Rattle.market.specs.Sound.{sound_book};
-ghost use Rattle.call_rules.specs.Steps.{refusal_of};
+ghost use Rattle.call_rules.specs.Steps.{verdict_of};
 ghost use Rattle.call_pay.specs.Pay.{pay_refusals, paid, book_paid, pay};
 
 use market::answer::Refusal;
@@ -11,42 +11,39 @@ use market::book::{Bidder, Book};
 use market::engine::Engine;
 use market::units::Cents;
 
-// The first of pay's refusals after 1 and 2; 0 where there is none.
-fn own_refusal(book: Book, bidder: u32, amount: Cents) -> u32
+// Pay's refusals after 1 and 2.
+fn check_own(book: Book, bidder: u32, amount: Cents) -> Result<(), Refusal>
     requires { sound_book book ≡ true }
     ensures { result ≡ first_of (pay_refusals book bidder amount) }
 {
     let stage = book.stage;
     if !book_parts::is_idle(stage) {
-        return Refusal::STAGE;
+        return Err(Refusal::Stage);
     }
     if bidder as usize >= Engine::BIDDERS {
-        return Refusal::BIDDER;
+        return Err(Refusal::Bidder);
     }
     let payer = book_parts::bidder(book, bidder);
     let owed = payer.owed;
     if amount.0 != owed.0 {
-        return Refusal::PAYMENT;
+        return Err(Refusal::Payment);
     }
     if book_parts::no_value(payer) {
-        return Refusal::NOTHING_DUE;
+        return Err(Refusal::NothingDue);
     }
     let account = book.account;
     if !book_account::sound(book_account::plus(account, crate::value(payer))) {
-        return Refusal::ACCOUNT;
+        return Err(Refusal::Account);
     }
-    Refusal::NONE
+    Ok(())
 }
 
-// The refusal of pay, 0 where there is none.
-pub fn refusal(book: Book, words: &[u32], bidder: u32, amount: Cents) -> u32
-    ensures { result ≡ refusal_of (pay bidder amount) book words.now }
+// Whether pay is refused.
+pub fn check(book: Book, words: &[u32], bidder: u32, amount: Cents) -> Result<(), Refusal>
+    ensures { result ≡ verdict_of (pay bidder amount) book words.now }
 {
-    let number = register_sound::refusal(book, words);
-    if number != Refusal::NONE {
-        return number;
-    }
-    own_refusal(book, bidder, amount)
+    register_sound::check(book, words)?;
+    check_own(book, bidder, amount)
 }
 
 // A bidder after it has paid.

@@ -8,7 +8,7 @@ use lib.IntN.{ℤ, pos, ◌+ℤ◌, ◌-ℤ◌}
 use lib.ListN.{length, replicate, length-replicate}
 use borrow.Author.Tests.{not-false}
 use Rattle.market.proofs.Tables.{none-hold, neither-holds}
-use Rattle.market.specs.Answers.{first_of}
+use Rattle.market.specs.Answers.{first_of, no_refusal}
 use Rattle.market.specs.Books.{credit, with_account}
 use Rattle.market.specs.Limits.{bidder_limit}
 use Rattle.market.specs.Sound.{sound_account}
@@ -41,11 +41,11 @@ amounts-length b day failed prices es =
 module _ (day : Day) (failed : Bool) (prices : List ℤ) (amounts : List ℕ) (lists : Lists) where
   -- the account stays within its limit where payout is answered
   account-within :
-      (b : Book) (es : List Entry) → first_of (hour_refusals day failed prices ++ account_refusals b es day failed prices) ≡ 0
+      (b : Book) (es : List Entry) → first_of (hour_refusals day failed prices ++ account_refusals b es day failed prices) ≡ no_refusal
       → sound_account (account_paying b day failed prices es) ≡ true
   account-within b es h =
       let last = account_refusals b es day failed prices in
-      not-false (sound_account (account_paying b day failed prices es)) (none-hold last refl (neither-holds (hour_refusals day failed prices) last refl h).1).0
+      not-false (sound_account (account_paying b day failed prices es)) (none-hold last (neither-holds (hour_refusals day failed prices) last h).1).0
 
   -- what the account pays is what the list then tells
   payout-moves : (b : Book) (es : List Entry) → Moved b (with_account b (account_paying b day failed prices es)) 0 (listed (reply_to ((payout day failed prices amounts).on b es) lists))
@@ -58,12 +58,12 @@ module _ (day : Day) (failed : Bool) (prices : List ℤ) (amounts : List ℕ) (l
   unfolding payout
   payout-lawful =
       record {
-        lent-numbers = λ b es. refl;
-        own-numbers = λ b es. refl;
+        lent-rows = λ b es. refl;
+        own-rows = λ b es. refl;
         answers = λ b es. refl;
         paths = λ b es. refl;
-        none_in = λ n. refl;
-        none_out = λ n. refl;
+        none_in = λ r. refl;
+        none_out = λ r. refl;
         few = λ b es sound clear. (omega arith, omega arith);
         keeps = λ b es state clear. account-kept b es (account_paying b day failed prices es) state (account-within b es clear.own);
         moves = λ b es state clear. payout-moves b es;

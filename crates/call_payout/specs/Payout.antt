@@ -4,6 +4,7 @@ use Rattle.market.specs.Answers.{Row, ◌gives◌, answered}
 use Rattle.market.specs.Books.{every, no_path, credit, with_account}
 use Rattle.market.specs.Limits.{bidder_limit, issued, day_limit, zones}
 use Rattle.market.specs.Sound.{sound_account}
+use Rattle.market.specs.declared.answer.Refusal.{Refusal}
 use Rattle.market.specs.declared.book.Book.{Book}
 use Rattle.market.specs.declared.book.Entry.{Entry}
 use Rattle.market.specs.declared.book.Path.{Path}
@@ -54,17 +55,17 @@ sound_prices false prices = every sound_zone_price (take zones prices)
 -- rule 13.1: fewer than 16 prices, also in a failed hour, or a list for fewer than 32 amounts
 abbrev pub short_payout_lists : List ℤ → List ℕ → List Row
 short_payout_lists prices amounts =
-    (not (leb zones (length prices)) gives 1) ∷ (not (leb bidder_limit (length amounts)) gives 1) ∷ []
+    (not (leb zones (length prices)) gives Refusal.ShortBuffer) ∷ (not (leb bidder_limit (length amounts)) gives Refusal.ShortBuffer) ∷ []
 
 -- rules 13.21 and 13.30: the day is above the highest day number, or a price of a priced hour is out of its range
 abbrev pub hour_refusals : Day → Bool → List ℤ → List Row
 hour_refusals day failed prices =
-    (not (leb day.0 day_limit) gives 21) ∷ (not (sound_prices failed prices) gives 30) ∷ []
+    (not (leb day.0 day_limit) gives Refusal.Days) ∷ (not (sound_prices failed prices) gives Refusal.ZonePrice) ∷ []
 
 -- rule 13.31: the account would be outside its limits
 abbrev pub account_refusals : Book → List Entry → Day → Bool → List ℤ → List Row
 account_refusals b es day failed prices =
-    (not (sound_account (account_paying b day failed prices es)) gives 31) ∷ []
+    (not (sound_account (account_paying b day failed prices es)) gives Refusal.Account) ∷ []
 
 -- rules 10.2, 10.5 and 12.10: a payout as a call, in either stage; the amounts are written to their list and go out
 unfoldable pub payout : Day → Bool → List ℤ → List ℕ → Rule

@@ -15,34 +15,34 @@ use market::book::Book;
 use market::engine::Engine;
 use market::units::Day;
 
-// The refusal of what is lent: 1 for a list that is too short, 1 or 2 for the register; 0 where there is none.
-fn lent_refusal(book: Book, words: &[u32], prices: &[i64], amounts: &[u64]) -> u32
+// The refusals of what is lent: 1 for a list that is too short, 1 or 2 for the register.
+fn check_lent(book: Book, words: &[u32], prices: &[i64], amounts: &[u64]) -> Result<(), Refusal>
     ensures { result ≡ first_of (rules.short_payout_lists prices.now amounts.now ++ register_refusals book words.now) }
 {
     if prices.len() < Engine::ZONES {
-        return Refusal::SHORT_BUFFER;
+        return Err(Refusal::ShortBuffer);
     }
     if amounts.len() < Engine::BIDDERS {
-        return Refusal::SHORT_BUFFER;
+        return Err(Refusal::ShortBuffer);
     }
-    register_sound::refusal(book, words)
+    register_sound::check(book, words)
 }
 
-// The refusal of the day, 21, or of the prices, 30; 0 where there is none.
-fn hour_refusal(day: Day, failed: bool, prices: &[i64]) -> u32
+// The refusals of the day, 21, and of the prices, 30.
+fn check_hour(day: Day, failed: bool, prices: &[i64]) -> Result<(), Refusal>
     requires { zones ≤ length prices.now }
     ensures { result ≡ first_of (rules.hour_refusals day failed prices.now) }
 {
     if day.0 > Engine::DAY_LIMIT {
-        return Refusal::DAYS;
+        return Err(Refusal::Days);
     }
     if failed {
-        return Refusal::NONE;
+        return Ok(());
     }
     if !call_payout_hour::all_sound(prices) {
-        return Refusal::ZONE_PRICE;
+        return Err(Refusal::ZonePrice);
     }
-    Refusal::NONE
+    Ok(())
 }
 
 // Writes what each bidder's issued rights earn in an hour of a day, failed or priced, to the front of the list that is lent for
@@ -59,17 +59,15 @@ pub fn payout(
     ensures amounts { lent.new
         ≡ list_after to_amounts (rules.payout day failed prices.now lent.old) book words.now lent.old }
 {
-    let first = lent_refusal(book, words, prices, lent);
-    if first != Refusal::NONE {
+    if let Err(refusal) = check_lent(book, words, prices, lent) {
         return Outcome {
-            answer: Answer::Refused(first),
+            answer: Err(refusal),
             book,
         };
     }
-    let second = hour_refusal(day, failed, prices);
-    if second != Refusal::NONE {
+    if let Err(refusal) = check_hour(day, failed, prices) {
         return Outcome {
-            answer: Answer::Refused(second),
+            answer: Err(refusal),
             book,
         };
     }
@@ -77,14 +75,14 @@ pub fn payout(
     let after = book_account::minus(book.account, sums.total);
     if !book_account::sound(after) {
         return Outcome {
-            answer: Answer::Refused(Refusal::ACCOUNT),
+            answer: Err(Refusal::Account),
             book,
         };
     }
     let paid = sums.amounts;
     lent_lists::write_amounts(paid, lent);
     Outcome {
-        answer: Answer::Done,
+        answer: Ok(Answer::Done),
         book: book_parts::with_account(book, after),
     }
 }

@@ -14,12 +14,12 @@ pub rent-lawful : (amount : Cents) (lists : Lists) → Lawful (rent amount) list
 unfolding rent
 rent-lawful amount lists =
     record {
-      lent-numbers = λ b es. refl;
-      own-numbers = λ b es. refl;
+      lent-rows = λ b es. refl;
+      own-rows = λ b es. refl;
       answers = λ b es. refl;
       paths = λ b es. refl;
-      none_in = λ n. refl;
-      none_out = λ n. refl;
+      none_in = λ r. refl;
+      none_out = λ r. refl;
       few = λ b es sound clear. (omega arith, omega arith);
       keeps = λ b es state clear. account-kept b es (account_with_rent b amount) state (rentable b amount clear.own).account;
       moves = λ b es state clear. gained b.account.0 (cash_held b) (cash_held b) amount.0 amount.0 (omega arith);

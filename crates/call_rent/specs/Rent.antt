@@ -4,6 +4,7 @@ use Rattle.market.specs.Answers.{Row, ◌gives◌, answered}
 use Rattle.market.specs.Books.{with_account}
 use Rattle.market.specs.Limits.{money_limit}
 use Rattle.market.specs.Sound.{sound_account}
+use Rattle.market.specs.declared.answer.Refusal.{Refusal}
 use Rattle.market.specs.declared.book.Book.{Book}
 use Rattle.market.specs.declared.units.Cents.{Cents}
 use Rattle.call_rules.specs.Money.{if_answered, nothing}
@@ -17,9 +18,9 @@ account_with_rent b amount = b.account.0 +ℤ pos amount.0
 -- rules 10.1, 13.11 and 13.31: the amount is outside its range, or the account would be outside its limits
 abbrev pub rent_refusals : Book → Cents → List Row
 rent_refusals b amount =
-    (eqb amount.0 0 gives 11)
-    ∷ (not (leb amount.0 money_limit) gives 11)
-    ∷ (not (sound_account (account_with_rent b amount)) gives 31)
+    (eqb amount.0 0 gives Refusal.Amount)
+    ∷ (not (leb amount.0 money_limit) gives Refusal.Amount)
+    ∷ (not (sound_account (account_with_rent b amount)) gives Refusal.Account)
     ∷ []
 
 -- rules 10.1 and 12.10: rent as a call, in either stage; the amount comes in

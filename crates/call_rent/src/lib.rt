@@ -7,7 +7,7 @@ ghost use Rattle.std.specs.Prelude.{◌≡◌};
 ghost use Rattle.call_rules.specs.Steps.{no_register, outcome_of};
 ghost use Rattle.call_rent.specs.Rent as rules;
 
-use market::answer::{Answer, Outcome, Refusal};
+use market::answer::{Answer, Outcome};
 use market::book::Book;
 use market::units::Cents;
 
@@ -15,15 +15,14 @@ use market::units::Cents;
 pub fn rent(book: Book, amount: Cents) -> Outcome
     ensures { result ≡ outcome_of (rules.rent amount) book no_register }
 {
-    let number = parts::refusal(book, amount);
-    if number != Refusal::NONE {
+    if let Err(refusal) = parts::check(book, amount) {
         return Outcome {
-            answer: Answer::Refused(number),
+            answer: Err(refusal),
             book,
         };
     }
     Outcome {
-        answer: Answer::Done,
+        answer: Ok(Answer::Done),
         book: parts::with_rent(book, amount),
     }
 }

@@ -3,7 +3,7 @@ ghost use Rattle.std.specs.Prelude.{◌≡◌, true, ◌≤◌};
 ghost use Rattle.market.specs.Books.{with_account};
 ghost use Rattle.market.specs.Limits.{money_limit};
 ghost use Rattle.market.specs.Sound.{sound_book};
-ghost use Rattle.call_rules.specs.Steps.{no_register, refusal_of};
+ghost use Rattle.call_rules.specs.Steps.{no_register, verdict_of};
 ghost use Rattle.call_rent.specs.Rent.{account_with_rent, rent};
 
 use market::answer::Refusal;
@@ -11,24 +11,24 @@ use market::book::Book;
 use market::engine::Engine;
 use market::units::Cents;
 
-// The refusal of rent, 0 where there is none.
-pub fn refusal(book: Book, amount: Cents) -> u32
-    ensures { result ≡ refusal_of (rent amount) book no_register }
+// Whether rent is refused.
+pub fn check(book: Book, amount: Cents) -> Result<(), Refusal>
+    ensures { result ≡ verdict_of (rent amount) book no_register }
 {
     if !book_sound::sound_book(book) {
-        return Refusal::UNSOUND;
+        return Err(Refusal::Unsound);
     }
     if amount.0 == 0 {
-        return Refusal::AMOUNT;
+        return Err(Refusal::Amount);
     }
     if amount.0 > Engine::MONEY_LIMIT {
-        return Refusal::AMOUNT;
+        return Err(Refusal::Amount);
     }
     let account = book.account;
     if !book_account::sound(book_account::plus(account, amount)) {
-        return Refusal::ACCOUNT;
+        return Err(Refusal::Account);
     }
-    Refusal::NONE
+    Ok(())
 }
 
 // The book with the rent added to its account.

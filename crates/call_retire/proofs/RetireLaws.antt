@@ -28,12 +28,12 @@ pub retire-lawful : (day : Day) (lists : Lists) → Lawful (retire day) lists
 unfolding retire
 retire-lawful day lists =
     record {
-      lent-numbers = λ b es. refl;
-      own-numbers = λ b es. refl;
+      lent-rows = λ b es. refl;
+      own-rows = λ b es. refl;
       answers = λ b es. refl;
       paths = λ b es. refl;
-      none_in = λ n. refl;
-      none_out = λ n. refl;
+      none_in = λ r. refl;
+      none_out = λ r. refl;
       few = λ b es sound clear. (omega arith, omega arith);
       keeps = λ b es state clear. retire-keeps b es day state;
       moves = λ b es state clear. nothing-moved (worth b);

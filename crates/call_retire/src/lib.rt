@@ -2,7 +2,7 @@
 #![tactic(auto)]
 
 ghost use Rattle.std.specs.Prelude.{◌≡◌};
-ghost use Rattle.call_rules.specs.Steps.{refusal_of, outcome_of, words_after};
+ghost use Rattle.call_rules.specs.Steps.{verdict_of, outcome_of, words_after};
 ghost use Rattle.call_retire.specs.Retire as rules;
 
 use market::answer::{Answer, Outcome, Refusal};
@@ -11,18 +11,15 @@ use market::engine::Engine;
 use market::units::Day;
 use register::Removal;
 
-// The refusal of retire, 0 where there is none.
-fn refusal(book: Book, words: &[u32], day: Day) -> u32
-    ensures { result ≡ refusal_of (rules.retire day) book words.now }
+// Whether retire is refused.
+fn check(book: Book, words: &[u32], day: Day) -> Result<(), Refusal>
+    ensures { result ≡ verdict_of (rules.retire day) book words.now }
 {
-    let number = register_sound::refusal(book, words);
-    if number != Refusal::NONE {
-        return number;
-    }
+    register_sound::check(book, words)?;
     if day.0 > Engine::DAY_LIMIT {
-        return Refusal::DAYS;
+        return Err(Refusal::Days);
     }
-    Refusal::NONE
+    Ok(())
 }
 
 // Removes the issued entries that have ended when `day` begins (rule 9.1).
@@ -30,17 +27,16 @@ pub fn retire(book: Book, words: &mut [u32], day: Day) -> Outcome
     ensures outcome { result ≡ outcome_of (rules.retire day) book words.old }
     ensures words { words.new ≡ words_after (rules.retire day) book words.old }
 {
-    let number = refusal(book, words, day);
-    if number != Refusal::NONE {
+    if let Err(refusal) = check(book, words, day) {
         return Outcome {
-            answer: Answer::Refused(number),
+            answer: Err(refusal),
             book,
         };
     }
     let count = book.entries;
     let left = register_entries::remove(words, count, Removal::EndedBefore(day));
     Outcome {
-        answer: Answer::Done,
+        answer: Ok(Answer::Done),
         book: book_parts::with_entries(book, left),
     }
 }

@@ -5,7 +5,7 @@ use mathlib.Core.List.{List}
 use Prim.Native.Nat.{ℕ, ◌≤◌}
 use lib.ListN.{length, replicate}
 use Rattle.market.proofs.SoundLaws.{sound-parts, count-within}
-use Rattle.market.specs.Answers.{first_of}
+use Rattle.market.specs.Answers.{first_of, no_refusal}
 use Rattle.market.specs.Limits.{path_limit, bid_limit, bidder_limit, bid_list_words}
 use Rattle.market.specs.Sound.{sound_book}
 use Rattle.market.specs.declared.book.Book.{Book}
@@ -27,7 +27,7 @@ few-paths : (b : Book) → sound_book b ≡ true → b.path_count ≤ path_limit
 few-paths b sound = count-within b.path_count (sound-parts b sound).path-count
 
 -- a bid list that no row refuses, for a sound book
-pub bids-listed : (b : Book) (bid_words : List ℕ) → sound_book b ≡ true → length bid_words ≤ bid_list_words → first_of (list_refusals b.path_count bid_words) ≡ 0 → BidList bid_words
+pub bids-listed : (b : Book) (bid_words : List ℕ) → sound_book b ≡ true → length bid_words ≤ bid_list_words → first_of (list_refusals b.path_count bid_words) ≡ no_refusal → BidList bid_words
 bids-listed b bid_words sound short clear =
     record { short = short; sound = list-sound b.path_count path_limit bid_words (few-paths b sound) clear }
 

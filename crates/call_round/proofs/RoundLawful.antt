@@ -24,7 +24,7 @@ use Rattle.round_award_rules.proofs.BestAward.{sold-within-offer}
 use Rattle.round_award_rules.specs.Awards.{sold_on}
 use Rattle.round_charges.specs.Charges.{charges_of}
 use Rattle.round_bidders.specs.Bidders.{billed_to}
-use Rattle.call_rules.proofs.Decides.{own_number}
+use Rattle.call_rules.proofs.Decides.{own_row}
 use Rattle.call_rules.proofs.Lawful.{Moved, Lawful}
 use Rattle.call_rules.specs.State.{SoundState}
 use Rattle.call_rules.proofs.Sums.{held_more}
@@ -32,7 +32,7 @@ use Rattle.call_rules.specs.Money.{held_by_all, cash_held}
 use Rattle.call_rules.specs.Rule.{Lists}
 use Rattle.call_round.specs.Round.{offered_now, marks_now, awards_now, won_now, sold_now, prices_now, entries_now, room_refusals, book_after, round}
 use Rattle.call_round.proofs.ChargeLimits.{below-most, charges-within-limits}
-use Rattle.call_round.proofs.Cleared.{list-numbers, lists-long, biddable}
+use Rattle.call_round.proofs.Cleared.{list-rows, lists-long, biddable}
 use Rattle.call_round.proofs.ReadyLaws.{bids-listed}
 use Rattle.call_round.proofs.RoundBidders.{billed-length, all-billed, billed-holds}
 use Rattle.call_round.proofs.RoundBounds.{won-quantities}
@@ -94,11 +94,11 @@ pub round-lawful : (bid_words : List ℕ) (lists : Lists) (scratch : List ℕ) �
 unfolding round
 round-lawful bid_words lists scratch =
     record {
-      lent-numbers = λ b es. refl;
-      own-numbers =
+      lent-rows = λ b es. refl;
+      own-rows =
           λ b es.
-          every_append own_number (list_refusals b.path_count bid_words) (room_refusals b (bids_of bid_words))
-          (list-numbers b.path_count bid_words) refl;
+          every_append own_row (list_refusals b.path_count bid_words) (room_refusals b (bids_of bid_words))
+          (list-rows b.path_count bid_words) refl;
       answers = λ b es. refl;
       paths = λ b es. refl;
       none_in = λ n. refl;

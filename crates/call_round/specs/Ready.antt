@@ -1,6 +1,6 @@
 -- What a round may rely on where nothing is refused before its awards are known. It states no rule: the functions of a round hand it to each other.
 use Rattle.std.specs.Prelude.{◌≡◌, false, List, ℕ, ◌≤◌, length}
-use Rattle.market.specs.Answers.{first_of}
+use Rattle.market.specs.Answers.{first_of, no_refusal}
 use Rattle.market.specs.Books.{in_cents, in_megawatts}
 use Rattle.market.specs.Limits.{bid_list_words, bid_answer_words, path_answer_words, scratch_words}
 use Rattle.market.specs.Sound.{is_idle}
@@ -25,7 +25,7 @@ pub record AllLent (b : Book) (words answers results scratch : List ℕ) : Type 
 -- nothing in the bid list is refused
 pub record RightList (b : Book) (bid_words : List ℕ) : Type 0 where
   pub short : length bid_words ≤ bid_list_words
-  pub clear : first_of (list_refusals b.path_count bid_words) ≡ 0
+  pub clear : first_of (list_refusals b.path_count bid_words) ≡ no_refusal
 
 -- all that, and the auction is open
 pub record Early (b : Book) (words bid_words answers results scratch : List ℕ) : Type 0 where

@@ -1,5 +1,5 @@
 -- The round, from the book, its entries and the words of the bid list: rules 7.12 to 7.19, with what the other crates state of it.
-use Rattle.std.specs.Prelude.{true, not, List, [], ◌∷◌, ◌++◌, ℕ, ◌+◌, leb, length}
+use Rattle.std.specs.Prelude.{true, not, List, [], ◌∷◌, ◌++◌, ℕ, ◌+◌, leb, length, Ok}
 use Rattle.market.specs.Answers.{Row, ◌gives◌}
 use Rattle.market.specs.Limits.{entry_limit, bid_list_words, bid_answer_words, path_answer_words, scratch_words}
 use Rattle.market.specs.Sound.{is_idle, round_of, kind_of, period_of}
@@ -7,6 +7,7 @@ use Rattle.market.specs.declared.answer.Answer.TheVariants.{Bids}
 use Rattle.market.specs.declared.answer.Outcome.{Outcome}
 use Rattle.market.specs.declared.book.Book.{Book}
 use Rattle.market.specs.declared.book.Entry.{Entry}
+use Rattle.market.specs.declared.answer.Refusal.{Refusal}
 use Rattle.register.specs.Refusals.{register_refusals}
 use Rattle.round_bids.specs.Bids.{Bid, bids_of}
 use Rattle.round_bids.specs.BidRefusals.{list_refusals}
@@ -65,19 +66,19 @@ path_answers_now b bids = path_rows (offered_now b) (sold_now b bids) (prices_no
 -- rules 7.17 to 7.19 and rule 13.1: the list for bids, the list for paths or the scratch is too short
 abbrev pub short_round_lists : List ℕ → List ℕ → List ℕ → List Row
 short_round_lists answers results scratch =
-    (not (leb bid_answer_words (length answers)) gives 1)
-    ∷ (not (leb path_answer_words (length results)) gives 1)
-    ∷ (not (leb scratch_words (length scratch)) gives 1)
+    (not (leb bid_answer_words (length answers)) gives Refusal.ShortBuffer)
+    ∷ (not (leb path_answer_words (length results)) gives Refusal.ShortBuffer)
+    ∷ (not (leb scratch_words (length scratch)) gives Refusal.ShortBuffer)
     ∷ []
 
 -- rules 13.20 and 13.22: no auction is open, or the bid list is too long
 abbrev pub desk_refusals : Book → List ℕ → List Row
 desk_refusals b bid_words =
-    (is_idle b.stage gives 20) ∷ (not (leb (length bid_words) bid_list_words) gives 22) ∷ []
+    (is_idle b.stage gives Refusal.Stage) ∷ (not (leb (length bid_words) bid_list_words) gives Refusal.BidList) ∷ []
 
 -- rule 13.23: the counted entries and the winning bids are too many for the register
 abbrev pub room_refusals : Book → List Bid → List Row
-room_refusals b bids = (not (leb (b.entries + length (entries_now b bids)) entry_limit) gives 23) ∷ []
+room_refusals b bids = (not (leb (b.entries + length (entries_now b bids)) entry_limit) gives Refusal.RegisterFull) ∷ []
 
 -- rule 13.101: a round's own rows in their order: 20, 22, bid after bid 14, 15 and 16, and 23 at the end
 abbrev pub round_refusals : Book → List ℕ → List Row
@@ -111,7 +112,7 @@ book_after b bids =
 
 -- rule 7.16: the answer is how many bids the list has
 abbrev pub round_outcome : Book → List Bid → Outcome
-round_outcome b bids = record { answer = Bids (length bids); book = book_after b bids }
+round_outcome b bids = record { answer = Ok (Bids (length bids)); book = book_after b bids }
 
 -- rules 7.12, 7.16, 7.17, 7.18 and 7.19: a round as a call: the new entries stand behind the others, words past the last bid and the last path
 -- stay, the scratch may hold any words, and no money moves

@@ -10,51 +10,54 @@ use market::answer::Refusal;
 use market::book::Book;
 use market::engine::Engine;
 
-// The first refusal of the lent lists, or of the register (1 or 2); 0 where there is none.
-fn lent_refusal(book: Book, words: &[u32], answers: &[u64], results: &[u64], scratch: &[u32]) -> u32
+// The refusals of the lent lists (1) and of the register (1 or 2).
+fn check_lent(
+    book: Book,
+    words: &[u32],
+    answers: &[u64],
+    results: &[u64],
+    scratch: &[u32],
+) -> Result<(), Refusal>
     ensures { result ≡ first_of (short_round_lists answers.now results.now scratch.now ++ register_refusals book words.now) }
 {
     if answers.len() < Engine::BID_ANSWER_WORDS {
-        return Refusal::SHORT_BUFFER;
+        return Err(Refusal::ShortBuffer);
     }
     if results.len() < Engine::PATH_ANSWER_WORDS {
-        return Refusal::SHORT_BUFFER;
+        return Err(Refusal::ShortBuffer);
     }
     if scratch.len() < Engine::SCRATCH_WORDS {
-        return Refusal::SHORT_BUFFER;
+        return Err(Refusal::ShortBuffer);
     }
-    register_sound::refusal(book, words)
+    register_sound::check(book, words)
 }
 
-// The first refusal of the stage (20), of the length of the bid list (22) or of its first faulty bid; 0 where there is none.
-fn list_refusal(book: Book, bids: &[u32]) -> u32
+// The refusals of the stage (20), of the length of the bid list (22) and of its first faulty bid.
+fn check_list(book: Book, bids: &[u32]) -> Result<(), Refusal>
     requires { book.path_count ≤ path_limit }
     ensures { result ≡ first_of (desk_refusals book bids.now ++ list_refusals book.path_count bids.now) }
 {
     let stage = book.stage;
     if book_parts::is_idle(stage) {
-        return Refusal::STAGE;
+        return Err(Refusal::Stage);
     }
     if bids.len() > Engine::BID_LIST_WORDS {
-        return Refusal::BID_LIST;
+        return Err(Refusal::BidList);
     }
-    round_bid_refusals::refusal(bids, book.path_count)
+    round_bid_refusals::check(bids, book.path_count)
 }
 
-// The refusal of a round before its awards are known; 0 where there is none.
-pub fn refusal(
+// Whether a round is refused before its awards are known.
+pub fn check(
     book: Book,
     words: &[u32],
     bids: &[u32],
     answers: &[u64],
     results: &[u64],
     scratch: &[u32],
-) -> u32
+) -> Result<(), Refusal>
     ensures { result ≡ first_of (early_refusals book words.now bids.now answers.now results.now scratch.now) }
 {
-    let number = lent_refusal(book, words, answers, results, scratch);
-    if number != Refusal::NONE {
-        return number;
-    }
-    list_refusal(book, bids)
+    check_lent(book, words, answers, results, scratch)?;
+    check_list(book, bids)
 }

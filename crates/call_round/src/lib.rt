@@ -48,7 +48,7 @@ fn answered(
     let count = effect::add_winners(book, bids, awarded, words);
     effect::write_answers(book.path_count, bids, worked, awarded, answers, results);
     Outcome {
-        answer: Answer::Bids(worked.bids),
+        answer: Ok(Answer::Bids(worked.bids)),
         book: effect::book_with(book, bids, awarded, count),
     }
 }
@@ -81,10 +81,9 @@ pub fn round(
         (rules.round bids.now answers.old results.old scratch.old)
         book words.old scratch.old scratch.new }
 {
-    let number = early::refusal(book, words, bids, answers, results, scratch);
-    if number != Refusal::NONE {
+    if let Err(refusal) = early::check(book, words, bids, answers, results, scratch) {
         return Outcome {
-            answer: Answer::Refused(number),
+            answer: Err(refusal),
             book,
         };
     }
@@ -94,7 +93,7 @@ pub fn round(
     let won = awarded.won;
     if !round_entries::has_room(book.entries, won, worked.bids) {
         return Outcome {
-            answer: Answer::Refused(Refusal::REGISTER_FULL),
+            answer: Err(Refusal::RegisterFull),
             book,
         };
     }

@@ -1,4 +1,4 @@
--- Laws about rules: `Decides`, what a function that knows the number of its refusal has to return and to leave; `Lawful`, what
+-- Laws about rules: `Decides`, what a function that knows its verdict has to return and to leave; `Lawful`, what
 -- the promise asks of each rule, with `SoundStates` and `Sums` for its proofs; `StepLaws`, what then holds of every call.
 pub mod Decides
 pub mod SoundStates

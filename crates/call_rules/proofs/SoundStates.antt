@@ -9,7 +9,7 @@ use lib.ListN.{length, length-set, length-replicate}
 use Rattle.market.proofs.Every.{every_set}
 use Rattle.market.proofs.FreshLaws.{fresh-sound}
 use Rattle.market.proofs.SoundLaws.{sound-parts, sound-made}
-use Rattle.market.specs.Answers.{first_of}
+use Rattle.market.specs.Answers.{no_refusal, first_of}
 use Rattle.market.specs.Books.{no_bidder, with_bidder, with_account, with_entries}
 use Rattle.market.specs.Fresh.{fresh_refusals, fresh_book}
 use Rattle.market.specs.Limits.{bidder_limit, register_words}
@@ -90,7 +90,7 @@ entries-kept b es after n s count fewer sound =
 
 -- ---- A fresh book, with any register that is long enough
 
-pub fresh-state : (routes : List Route) (n : ℕ) (words : List ℕ) → first_of (fresh_refusals routes n) ≡ 0 → register_words ≤ length words → SoundMemory (fresh_book routes n) words
+pub fresh-state : (routes : List Route) (n : ℕ) (words : List ℕ) → first_of (fresh_refusals routes n) ≡ no_refusal → register_words ≤ length words → SoundMemory (fresh_book routes n) words
 unfolding fresh_book
 fresh-state routes n words none long =
     record {

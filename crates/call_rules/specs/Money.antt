@@ -1,7 +1,9 @@
 -- The money in a book, and what a reply moves of it: rules 12.9 and 12.10.
-use Rattle.std.specs.Prelude.{List, [], ◌∷◌, ℕ, zero, suc, ◌+◌, ℤ, pos, ◌+ℤ◌, get_or}
-use Rattle.market.specs.Answers.{answer_number, answer_values}
+use Rattle.std.specs.Prelude.{List, [], ◌∷◌, ℕ, ◌+◌, ℤ, pos, ◌+ℤ◌, get_or, Result, Ok, Err}
+use Rattle.market.specs.Answers.{answer_values}
 use Rattle.market.specs.Books.{held_of}
+use Rattle.market.specs.declared.answer.Answer.{Answer}
+use Rattle.market.specs.declared.answer.Refusal.{Refusal}
 use Rattle.market.specs.declared.book.Bidder.{Bidder}
 use Rattle.market.specs.declared.book.Book.{Book}
 use Rattle.call_rules.specs.Rule.{Reply}
@@ -18,14 +20,14 @@ cash_held b = held_by_all b.bidders
 abbrev pub worth : Book → ℤ
 worth b = pos (cash_held b) +ℤ b.account.0
 
--- an amount that moves only if the number of the refusal is 0, which is none
-abbrev pub amount_unless : ℕ → ℕ → ℕ
-amount_unless zero amount = amount
-amount_unless (suc number) amount = 0
+-- an amount that moves only if a call is answered
+abbrev pub amount_if : Result Answer Refusal → ℕ → ℕ
+amount_if (Ok answer) amount = amount
+amount_if (Err refusal) amount = 0
 
 -- rule 12.10: a refused call moves no money
 abbrev pub if_answered : ℕ → Reply → ℕ
-if_answered amount reply = amount_unless (answer_number reply.answer) amount
+if_answered amount reply = amount_if reply.answer amount
 
 -- rule 12.10: a call that moves no money in a direction, whatever it replies
 abbrev pub nothing : Reply → ℕ

@@ -1,9 +1,10 @@
 -- The form in which each call states its rule, in its own crate: the refusals of its lent lists, how it has the register (rule 3.4), its own
 -- refusals, what it answers and leaves where none of them holds, and the money that it moves.
-use Rattle.std.specs.Prelude.{Bool, false, List, ℕ}
+use Rattle.std.specs.Prelude.{Bool, false, List, ℕ, Result}
 use Rattle.market.specs.Answers.{Row}
 use Rattle.market.specs.declared.answer.Answer.{Answer}
 use Rattle.market.specs.declared.answer.Outcome.{Outcome}
+use Rattle.market.specs.declared.answer.Refusal.{Refusal}
 use Rattle.market.specs.declared.book.Book.{Book}
 use Rattle.market.specs.declared.book.Entry.{Entry}
 
@@ -52,7 +53,7 @@ pub record Ruling : Type 0 where
 
 -- what the caller gets: the answer, and the lists that may have been written
 pub record Reply : Type 0 where
-  pub answer : Answer
+  pub answer : Result Answer Refusal
   pub lists : Lists
 
 -- a call: its ruling, and the money that comes in and that goes out with its reply

@@ -53,7 +53,7 @@ fn book_of_sheet(entries: usize) -> Book {
 fn show_answer(rt: &impl Print, outcome: Outcome) -> io::Result<()> {
     print!(rt; ":")?;
     report::answer(rt, outcome)?;
-    if let Answer::Drawn(draw) = outcome.answer {
+    if let Ok(Answer::Drawn(draw)) = outcome.answer {
         print!(rt; " draw {}", draw.0)?;
     }
     Ok(())

@@ -47,7 +47,7 @@ pub fn bidder(rt: &impl Print, x: Bidder) -> io::Result<()> {
 
 // The number of an outcome: the refusal's, 0 where the call is answered.
 pub fn answer(rt: &impl Print, outcome: Outcome) -> io::Result<()> {
-    print!(rt; " {}", outcome.answer.number())
+    print!(rt; " {}", outcome.number())
 }
 
 // The end of a line.

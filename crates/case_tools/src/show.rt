@@ -55,10 +55,9 @@ pub fn answered(rt: &impl Print, outcome: Outcome) -> io::Result<Outcome> {
     print!(rt; ":")?;
     report::answer(rt, outcome)?;
     match outcome.answer {
-        Answer::Refused(_number) => {}
-        Answer::Done => {}
-        Answer::Drawn(draw) => print!(rt; " draw {}", draw.0)?,
-        Answer::Bids(bids) => print!(rt; " bids {bids}")?,
+        Err(_) | Ok(Answer::Done) => {}
+        Ok(Answer::Drawn(draw)) => print!(rt; " draw {}", draw.0)?,
+        Ok(Answer::Bids(bids)) => print!(rt; " bids {bids}")?,
     }
     report::line(rt)?;
     Ok(outcome)

@@ -3,12 +3,15 @@ use mathlib.Core.Path.{◌≡◌, sym, ◌∙◌, ap}
 use mathlib.Core.List.{List, [], ◌∷◌, ◌++◌, append_assoc, append-nil}
 use Prim.Native.Nat.{ℕ, suc, ◌-◌, ◌≤◌, ◌<◌}
 use native.Mathlib.Omega.{arith}
+use Rattle.std.specs.Prelude.{Result, Ok, Err}
 use lib.ListN.{length, take, drop, length-drop}
 use lib.Seq.{take_all}
 use Rattle.market.specs.Limits.{bid_answer_size, path_answer_size}
 use Rattle.market.specs.declared.answer.Answer.{Answer}
-use Rattle.market.specs.declared.answer.Answer.TheVariants.{Refused, Done, Drawn, Bids}
+use Rattle.market.specs.declared.answer.Answer.TheVariants.{Done, Drawn, Bids}
 use Rattle.market.specs.declared.units.Cents.{Cents}
+use Rattle.market.specs.Answers.{refusal_number}
+use Rattle.market.specs.declared.answer.Refusal.{Refusal}
 use Rattle.text_fields.specs.Fields.{newline}
 use Rattle.journal_rows.specs.Rows.{row, last_row, rows}
 use Rattle.journal_reply.specs.Replies.{path_rows_text, round_reply, done_text, reply_text}
@@ -42,25 +45,32 @@ round-pieces bids answers paths results =
     append_assoc (counted ++ answered) (path_rows_text paths results) (newline ∷ [])
     ∙ append_assoc counted answered (path_rows_text paths results ++ (newline ∷ []))
 
+-- what a call answers, by the answer that was matched in it
+pub told-is : {answer : Result Answer Refusal} {given other : Answer} → answer ≡ Ok given → given ≡ other → answer ≡ Ok other
+told-is is same = is ∙ ap (λ (x : Answer). the-answer x) same
+  where
+    the-answer : Answer → Result Answer Refusal
+    the-answer x = Ok x
+
 -- the reply by the answer of its call, as one piece with nothing after it
-module _ {answer : Answer} (told : Told) (list answers : List ℕ) (paths : ℕ) (results : List ℕ) where
-  reply-as : {other : Answer} → answer ≡ other → reply_text answer told list answers paths results ≡ reply_text other told list answers paths results ++ []
+module _ {answer : Result Answer Refusal} (told : Told) (list answers : List ℕ) (paths : ℕ) (results : List ℕ) where
+  reply-as : {other : Result Answer Refusal} → answer ≡ other → reply_text answer told list answers paths results ≡ reply_text other told list answers paths results ++ []
   reply-as {other} is =
-      ap (λ (x : Answer). reply_text x told list answers paths results) is
+      ap (λ (x : Result Answer Refusal). reply_text x told list answers paths results) is
       ∙ sym (append-nil (reply_text other told list answers paths results))
 
-  pub reply-refused : {n : ℕ} → answer ≡ Refused n → reply_text answer told list answers paths results ≡ last_row words.refused_mark (n ∷ []) ++ []
+  pub reply-refused : {r : Refusal} → answer ≡ Err r → reply_text answer told list answers paths results ≡ last_row words.refused_mark (refusal_number r ∷ []) ++ []
   unfolding reply_text
   reply-refused is = reply-as is
 
-  pub reply-done : answer ≡ Done → reply_text answer told list answers paths results ≡ done_text told list ++ []
+  pub reply-done : answer ≡ Ok Done → reply_text answer told list answers paths results ≡ done_text told list ++ []
   unfolding reply_text
   reply-done is = reply-as is
 
-  pub reply-drawn : {d : Cents} → answer ≡ Drawn d → reply_text answer told list answers paths results ≡ last_row words.ok_mark (d.0 ∷ []) ++ []
+  pub reply-drawn : {d : Cents} → answer ≡ Ok (Drawn d) → reply_text answer told list answers paths results ≡ last_row words.ok_mark (d.0 ∷ []) ++ []
   unfolding reply_text
   reply-drawn is = reply-as is
 
-  pub reply-round : {n : ℕ} → answer ≡ Bids n → reply_text answer told list answers paths results ≡ round_reply n answers paths results ++ []
+  pub reply-round : {n : ℕ} → answer ≡ Ok (Bids n) → reply_text answer told list answers paths results ≡ round_reply n answers paths results ++ []
   unfolding reply_text
   reply-round is = reply-as is

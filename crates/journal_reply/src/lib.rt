@@ -7,7 +7,7 @@ ghost use Rattle.market.specs.Limits.{bidder_limit, bid_limit, bid_answer_size, 
 ghost use Rattle.text_numbers.specs.Put.{Put};
 ghost use Rattle.journal_reply.specs.Replies.{reply_room, path_rows_text, round_reply, done_text, reply_text};
 
-use market::answer::Answer;
+use market::answer::{Answer, Refusal};
 use market::engine::Engine;
 
 // What an answered call tells besides its number: nothing, or a list.
@@ -72,7 +72,7 @@ fn put_done(out: &mut [u8], told: Told, list: &[u64]) -> usize
 // The reply to a call, at the front of the buffer; returns the place after it.
 pub fn put_reply(
     out: &mut [u8],
-    answer: Answer,
+    answer: Result<Answer, Refusal>,
     told: Told,
     list: &[u64],
     answers: &[u64],
@@ -86,15 +86,17 @@ pub fn put_reply(
     ensures { Put out.old 0 (reply_text answer told list.now answers.now paths results.now) out.new result }
 {
     match answer {
-        Answer::Refused(number) => {
-            let row = [number as u64];
+        Err(refusal) => {
+            let row = [refusal.number() as u64];
             journal_rows::put_last_row(out, 0, b"= refused", &row)
         }
-        Answer::Done => put_done(out, told, list),
-        Answer::Drawn(draw) => {
-            let row = [draw.0];
-            journal_rows::put_last_row(out, 0, b"= ok", &row)
-        }
-        Answer::Bids(bids) => put_round(out, bids, answers, paths, results),
+        Ok(answered) => match answered {
+            Answer::Done => put_done(out, told, list),
+            Answer::Drawn(draw) => {
+                let row = [draw.0];
+                journal_rows::put_last_row(out, 0, b"= ok", &row)
+            }
+            Answer::Bids(bids) => put_round(out, bids, answers, paths, results),
+        },
     }
 }

@@ -1,19 +1,21 @@
 -- Laws about a line of a journal: what a call is lent, and the line of a fresh book.
 use mathlib.Core.Path.{◌≡◌, refl, sym, ◌∙◌, ap}
-use mathlib.Core.Bool.{Bool, true, false, cond}
+use mathlib.Core.Bool.{Bool, true, false, cond, false≢true}
 use mathlib.Core.List.{List, []}
 use mathlib.Core.Logic.{◌⊎◌, ⊎_elim}
-use Prim.Native.Nat.{ℕ, zero, suc}
-use native.Mathlib.Omega.{arith}
+use Prim.Native.Nat.{ℕ}
 use lib.IntN.{ℤ}
+use Rattle.std.specs.Prelude.{Result, is_err, Ok, Err}
+use Rattle.market.specs.declared.answer.Answer.{Answer}
 use lib.ListN.{length, drop, replicate}
-use Rattle.market.specs.Answers.{bids_in, first_of, decided, answered}
+use Rattle.market.specs.Answers.{bids_in, first_of, decided, answered, Verdict}
 use Rattle.market.specs.Fresh.{fresh_refusals, fresh_book, no_book, fresh}
 use Rattle.market.specs.Limits.{bidder_limit, bid_answer_words, path_answer_words, scratch_words}
 use Rattle.market.specs.declared.book.Book.{Book}
 use Rattle.market.specs.declared.book.Route.{Route}
 use Rattle.market.specs.declared.answer.Outcome.{Outcome}
 use Rattle.market.specs.Books.{paths_of}
+use Rattle.market.specs.declared.answer.Refusal.{Refusal}
 use Rattle.engine.specs.Lent.{lent}
 use Rattle.call_rules.specs.Steps.{Left}
 use Rattle.engine.specs.Step.{step}
@@ -26,8 +28,8 @@ use Rattle.journal_fresh_line.specs.declared.FreshLine.{FreshLine}
 use Rattle.journal_step.specs.declared.Journal.{Journal}
 use Rattle.journal_step.specs.declared.answers.Tell.{Tell}
 use Rattle.journal_step.specs.declared.answers.Tell.TheVariants as tells
-use Rattle.journal_step.specs.LineStep.{column, lent_with, is_round, left_by, offers_of, tell_by, text_by, call_text, Stepped}
-use Rattle.journal_step.specs.LineStep.{turned_away, fresh_state, fresh_by, fresh_step, call_line_step, fresh_word, is_fresh, line_step}
+use Rattle.journal_step.specs.LineStep.{column, lent_with, is_round, left_by, offers_of, tell_by, text_by, call_text}
+use Rattle.journal_step.specs.LineStep.{Stepped, turned_away, fresh_state, fresh_by, fresh_step, call_line_step, fresh_word, is_fresh, line_step}
 
 pub lent_same :
     (list :
@@ -47,9 +49,9 @@ left-same b register call list prices t e =
     (sym e)
 
 -- a fresh book tells of no bids
-decided-none : (n : ℕ) (b : Book) → bids_in (decided no_book n (answered b)).answer ≡ 0
-decided-none zero b = refl
-decided-none (suc n) b = refl
+decided-none : (v : Verdict) (b : Book) → bids_in (decided no_book v (answered b)).answer ≡ 0
+decided-none (Ok done) b = refl
+decided-none (Err refusal) b = refl
 
 pub fresh-none : (routes : List Route) (n : ℕ) → bids_in (fresh routes n).answer ≡ 0
 unfolding fresh
@@ -65,13 +67,13 @@ module _ (j : Journal) (register : List ℕ) (f : FreshLine) where
   pub fresh-made : f.present ≡ true → fresh_step j register f ≡ fresh_by j register (fresh f.routes f.count)
   fresh-made e = ap either e
 
-pub fresh_kept : (j : Journal) (n : ℕ) (b : Book) → (n ≡ 0 → ⊥) → fresh_state j n b ≡ j
-fresh_kept j zero b h = absurd (h refl)
-fresh_kept j (suc n) b h = refl
+pub fresh_kept : (j : Journal) (answer : Result Answer Refusal) (b : Book) → is_err answer ≡ true → fresh_state j answer b ≡ j
+fresh_kept j (Ok answer) b h = absurd (false≢true h)
+fresh_kept j (Err refusal) b h = refl
 
-pub fresh-taken : (j : Journal) (n : ℕ) (b : Book) → n ≡ 0 → fresh_state j n b ≡ record { ready = true; book = b }
-fresh-taken j zero b h = refl
-fresh-taken j (suc n) b h = absurd (let no : ⊥ = omega arith in no)
+pub fresh-taken : (j : Journal) (answer : Result Answer Refusal) (b : Book) → is_err answer ≡ false → fresh_state j answer b ≡ record { ready = true; book = b }
+fresh-taken j (Ok answer) b h = refl
+fresh-taken j (Err refusal) b h = absurd (false≢true (sym h))
 
 -- the reply to a call, by what it tells
 module _ (o : Outcome) (amounts answers results : List ℕ) (count : ℕ) (e : count ≡ length (paths_of o.book)) (tell : Tell) where

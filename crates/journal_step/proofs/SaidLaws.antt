@@ -6,12 +6,12 @@ use native.Mathlib.Omega.{arith}
 use lib.IntN.{ℤ}
 use lib.ListN.{length, take, drop, length-append}
 use lib.Seq.{take-append_seam}
+use Rattle.std.specs.Prelude.{Option, Some, None}
 use Rattle.market.specs.Limits.{zones}
 use Rattle.market.specs.Books.{with_front}
 use Rattle.journal_call_line.proofs.LengthLaws.{called-fits}
 use Rattle.journal_call_line.proofs.FormLaws.{read_as}
 use Rattle.journal_call_line.specs.CallLine.{ReadInto, line_read, line_words, line_prices}
-use Rattle.std.specs.Prelude.{Option, Some, None}
 use Rattle.journal_call_line.specs.declared.CallLine.{CallLine}
 use Rattle.journal_step.specs.declared.Journal.{Journal}
 use Rattle.journal_step.specs.LineStep.{word_room, turned_away, call_step, said_step, call_line_step}

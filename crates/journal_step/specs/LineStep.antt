@@ -1,12 +1,12 @@
 -- One line of a journal, the reply to it, and the state after it (rules 15.1 to 15.7, and rule 13.40). The calls are the engine's own, by `step`.
-use Rattle.std.specs.Prelude.{Bool, true, false, cond, List, [], ◌∷◌, map, ℕ, zero, suc, ◌*◌, ltb, ℤ, length, take, drop, replicate, Option, Some, None}
-use Rattle.market.specs.Answers.{answer_number, form_refusal}
+use Rattle.std.specs.Prelude.{Result, Bool, true, false, cond, List, [], ◌∷◌, map, ℕ, ◌*◌, ltb, ℤ, length, take, drop, replicate, Option, Some, None, Ok, Err}
 use Rattle.market.specs.Books.{paths_of, offer_of}
 use Rattle.market.specs.Fresh.{fresh}
 use Rattle.market.specs.Limits.{bidder_limit, bid_answer_words, path_answer_words, path_limit, scratch_words, zones}
-use Rattle.market.specs.declared.answer.Answer.TheVariants.{Refused}
+use Rattle.market.specs.declared.answer.Answer.{Answer}
 use Rattle.market.specs.declared.answer.Outcome.{Outcome}
 use Rattle.market.specs.declared.book.Book.{Book}
+use Rattle.market.specs.declared.answer.Refusal.{Refusal}
 use Rattle.engine.specs.Lent.{Lent, lent}
 use Rattle.call_rules.specs.Steps.{Left}
 use Rattle.engine.specs.Step.{step}
@@ -113,7 +113,7 @@ pub record Stepped : Type 0 where
 
 -- rules 13.40 and 15.4: `= refused 40`
 abbrev pub malformed_reply : List ℕ
-malformed_reply = reply_text (Refused form_refusal) Nothing [] [] 0 []
+malformed_reply = reply_text (Err Refusal.Form) Nothing [] [] 0 []
 
 -- rule 15.4: such a line changes nothing
 abbrev pub turned_away : Journal → List ℕ → Stepped
@@ -134,15 +134,15 @@ call_step true j register call list prices = called_by call (left_by j.book regi
 call_step false j register call list prices = turned_away j register
 
 -- rule 15.5: an answered fresh book is the journal's; a refused one leaves the journal as it was
-abbrev pub fresh_state : Journal → ℕ → Book → Journal
-fresh_state j zero book = record { ready = true; book = book }
-fresh_state j (suc n) book = j
+abbrev pub fresh_state : Journal → Result Answer Refusal → Book → Journal
+fresh_state j (Ok answer) book = record { ready = true; book = book }
+fresh_state j (Err refusal) book = j
 
 -- rule 15.5: the words of the register stay
 abbrev pub fresh_by : Journal → List ℕ → Outcome → Stepped
 fresh_by j register o =
     record {
-      journal = fresh_state j (answer_number o.answer) o.book;
+      journal = fresh_state j o.answer o.book;
       register = register;
       text = reply_text o.answer Nothing [] [] 0 [];
     }

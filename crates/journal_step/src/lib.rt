@@ -18,7 +18,7 @@ ghost use Rattle.journal_step.specs.LineStep as rules;
 use answers::Tell;
 use engine::calls::Call;
 use journal_reply::Told;
-use market::answer::{Answer, Outcome, Refusal};
+use market::answer::{Outcome, Refusal};
 use market::book::Book;
 use market::engine::Engine;
 
@@ -203,7 +203,7 @@ fn turn_away(journal: Journal, out: &mut [u8]) -> Replied
     let empty = &none[..0];
     let used = journal_reply::put_reply(
         out,
-        Answer::Refused(Refusal::FORM),
+        Err(Refusal::Form),
         Told::Nothing,
         empty,
         empty,
@@ -225,11 +225,10 @@ fn answer_fresh(journal: Journal, text: &[u8], out: &mut [u8]) -> Replied
         return turn_away(journal, out);
     }
     let outcome = Engine::fresh(said.routes, said.count);
-    let answer = outcome.answer;
     let none = [0u64; 1];
     let empty = &none[..0];
-    let used = journal_reply::put_reply(out, answer, Told::Nothing, empty, empty, 0, empty);
-    if answer.number() != Refusal::NONE {
+    let used = journal_reply::put_reply(out, outcome.answer, Told::Nothing, empty, empty, 0, empty);
+    if outcome.answer.is_err() {
         return Replied { journal, used };
     }
     let book = outcome.book;

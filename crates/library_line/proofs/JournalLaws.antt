@@ -2,16 +2,17 @@
 use mathlib.Core.Path.{◌≡◌, refl, sym, ◌∙◌, ap, ap₂, subst}
 use mathlib.Core.Bool.{Bool, true, false, cond, not, ◌||◌}
 use mathlib.Core.List.{List, [], ◌∷◌}
-use Prim.Native.Nat.{ℕ, zero, suc, ◌≤◌, ◌<◌}
+use Prim.Native.Nat.{ℕ, ◌≤◌, ◌<◌}
 use native.Mathlib.Omega.{arith}
 use lib.Dec.{leb, eqb, lit≤}
 use lib.IntN.{ℤ, pos}
 use lib.ListN.{length, drop}
 use borrow.Author.Tests.{le-ltb, lt-ltb, leb-true, ne_eqb, not-false}
+use Rattle.std.specs.Prelude.{Option, Some, None, Ok, Err}
 use Rattle.market.proofs.Filled.{zeros}
 use Rattle.market.proofs.Tables.{none-hold}
 use Rattle.market.proofs.Tests.{left-true}
-use Rattle.market.specs.Answers.{first_of, answer_number, answered, decided}
+use Rattle.market.specs.Answers.{first_of, answered, decided, Verdict, no_refusal}
 use Rattle.market.specs.Fresh.{fresh_refusals, fresh_book, no_book, fresh}
 use Rattle.market.specs.Limits.{path_limit, register_words, zones}
 use Rattle.market.specs.Sound.{sound_path_count}
@@ -28,7 +29,6 @@ use Rattle.engine.specs.declared.calls.Call.{Call}
 use Rattle.journal_fresh_line.specs.FreshLines.{fresh_said}
 use Rattle.journal_fresh_line.specs.declared.FreshLine.{FreshLine}
 use Rattle.journal_call_line.specs.CallLine.{line_read, line_said, line_words, line_prices}
-use Rattle.std.specs.Prelude.{Option, Some, None}
 use Rattle.journal_call_line.specs.declared.CallLine.{CallLine}
 use Rattle.journal_step.specs.LineStep.{line_bytes, Stepped, word_room, turned_away, call_step, fresh_state, fresh_by, fresh_step, said_step, call_line_step, fresh_word, is_fresh, line_step}
 use Rattle.journal_step.specs.declared.Journal.{Journal}
@@ -36,8 +36,8 @@ use Rattle.library_book.specs.BookWords.{book_size, book_words, book_in, encodes
 use Rattle.library_book.proofs.WordLaws.{book-length}
 use Rattle.library_book.proofs.ReadBack.{read_back, laid-stands, stands-laid, zeros-read, zeros-stand}
 use Rattle.journal_reply.specs.Replies.{reply_room}
-use Rattle.library_line.specs.LibraryLine.{Memory, Returned, short, taken, journal_of, HeldIn, step_on, line_run, line_on, Kept}
-use Rattle.library_line.specs.LibraryLine.{Given, memory_of, kept_in, lines_on, JournalState, state_after, lines_by, Sized, AllSized}
+use Rattle.library_line.specs.LibraryLine.{Memory, Returned, short, taken, journal_of, HeldIn, step_on, line_run, line_on}
+use Rattle.library_line.specs.LibraryLine.{Kept, Given, memory_of, kept_in, lines_on, JournalState, state_after, lines_by, Sized, AllSized}
 use Rattle.library_line.proofs.LineLaws.{line-run}
 
 -- ---- A line that changes nothing
@@ -74,19 +74,19 @@ step_count : (b : Book) (words : List ℕ) (call : Call) (l : Lent) → (step b 
 step_count b words call l = same-paths (rule_of call l) (lists_of l) (lawful call l) b words
 
 -- a fresh book that is answered has a path
-fresh-counted : (routes : List Route) (n : ℕ) → first_of (fresh_refusals routes n) ≡ 0 → true ≡ not (eqb n 0)
+fresh-counted : (routes : List Route) (n : ℕ) → first_of (fresh_refusals routes n) ≡ no_refusal → true ≡ not (eqb n 0)
 fresh-counted routes n h =
-    let none = none-hold (fresh_refusals routes n) refl h in
+    let none = none-hold (fresh_refusals routes n) h in
     let some : 1 ≤ n = leb-true 1 n (left-true (leb 1 n) (leb n path_limit) (not-false (sound_path_count n) none.0)) in
     sym (ap not (ne_eqb n 0 (λ e. omega arith)))
 
 fresh-ready :
     (j :
-    Journal) (routes : List Route) (n k : ℕ) → Ready j → first_of (fresh_refusals routes n) ≡ k
-    → Ready (fresh_state j (answer_number (decided no_book k (answered (fresh_book routes n))).answer) (decided no_book k (answered (fresh_book routes n))).book)
+    Journal) (routes : List Route) (n : ℕ) (v : Verdict) → Ready j → first_of (fresh_refusals routes n) ≡ v
+    → Ready (fresh_state j (decided no_book v (answered (fresh_book routes n))).answer (decided no_book v (answered (fresh_book routes n))).book)
 unfolding fresh_book
-fresh-ready j routes n zero h e = fresh-counted routes n e
-fresh-ready j routes n (suc k) h e = h
+fresh-ready j routes n (Ok done) h e = fresh-counted routes n e
+fresh-ready j routes n (Err refusal) h e = h
 
 module _ (j : Journal) (register : List ℕ) (h : Ready j) where
   of-fresh : (f : FreshLine) (t : Bool) → Ready (cond t (fresh_by j register (fresh f.routes f.count)) (turned_away j register)).journal

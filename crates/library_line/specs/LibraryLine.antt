@@ -1,9 +1,10 @@
 -- `tra_line`: a line of a journal on the state that a program keeps in lent words, what is returned, and what is left in everything lent
 -- (rules 16.1, 16.2, 16.4 and 16.5).
-use Rattle.std.specs.Prelude.{◌≡◌, Bool, true, cond, not, ◌||◌, List, [], ◌∷◌, ℕ, zero, suc, ◌≤◌, eqb, ltb, ℤ, length}
-use Rattle.market.specs.Answers.{Row, ◌gives◌, first_of}
+use Rattle.std.specs.Prelude.{◌≡◌, Bool, true, cond, not, ◌||◌, List, [], ◌∷◌, ℕ, ◌≤◌, eqb, ltb, ℤ, length, Ok, Err}
+use Rattle.market.specs.Answers.{Row, ◌gives◌, first_of, Verdict, refusal_number}
 use Rattle.market.specs.Limits.{register_words}
 use Rattle.market.specs.declared.book.Book.{Book}
+use Rattle.market.specs.declared.answer.Refusal.{Refusal}
 use Rattle.text_numbers.specs.Put.{put_at}
 use Rattle.library_book.specs.BookWords.{book_size, book_words, book_in, encodes_book, FitsBook}
 use Rattle.journal_reply.specs.Replies.{reply_room}
@@ -40,8 +41,8 @@ short book register room out =
 -- rules 16.1 and 16.4: 1 for a short buffer, and 2 for words that are no book
 abbrev pub line_refusals : Memory → List Row
 line_refusals m =
-    (short m.book m.register m.room m.out gives 1)
-    ∷ (not (encodes_book m.book) gives 2)
+    (short m.book m.register m.room m.out gives Refusal.ShortBuffer)
+    ∷ (not (encodes_book m.book) gives Refusal.Unsound)
     ∷ []
 
 -- rule 16.2: a line of more than 65,536 bytes is taken as an empty one, which is refused with 40
@@ -77,9 +78,9 @@ abbrev pub line_run : Memory → List ℕ → Memory
 line_run m line = memory_after m line (step_on m line)
 
 -- rule 16.1: 0 where the work was done; with 1 or 2 nothing lent has changed
-abbrev pub returned_by : Memory → ℕ → Memory → Returned
-returned_by before zero after = record { number = 0; memory = after }
-returned_by before (suc n) after = record { number = suc n; memory = before }
+abbrev pub returned_by : Memory → Verdict → Memory → Returned
+returned_by before (Ok done) after = record { number = 0; memory = after }
+returned_by before (Err refusal) after = record { number = refusal_number refusal; memory = before }
 
 -- rule 16.1: `tra_line`; what the rules refuse is work done
 unfoldable pub line_on : Memory → List ℕ → Returned

@@ -5,6 +5,7 @@ use Rattle.market.specs.Books.{every, megawatts, balance, no_path, no_bidder}
 use Rattle.market.specs.Limits.{path_limit, zone_limit, bidder_limit}
 use Rattle.market.specs.Sound.{sound_path_count}
 use Rattle.market.specs.declared.answer.Outcome.{Outcome}
+use Rattle.market.specs.declared.answer.Refusal.{Refusal}
 use Rattle.market.specs.declared.book.Book.{Book}
 use Rattle.market.specs.declared.book.Path.{Path}
 use Rattle.market.specs.declared.book.Route.{Route}
@@ -17,8 +18,8 @@ sound_route r = leb r.zone zone_limit
 -- rule 13.25: there is no path, or more than 16, or a zone is above 15; routes past the counted ones are no part of the book
 abbrev pub fresh_refusals : List Route → ℕ → List Row
 fresh_refusals routes n =
-    (not (sound_path_count n) gives 25)
-    ∷ (not (every sound_route (take n routes)) gives 25)
+    (not (sound_path_count n) gives Refusal.Quantity)
+    ∷ (not (every sound_route (take n routes)) gives Refusal.Quantity)
     ∷ []
 
 -- rule 2.7: a path of a fresh book has its direction and zone, and nothing offered or sold

@@ -2,7 +2,7 @@
 ghost use Rattle.std.specs.Prelude.{◌≡◌};
 ghost use Rattle.market.specs.Fresh as rules;
 
-use crate::answer::{Answer, Outcome, Refusal};
+use crate::answer::{Answer, Outcome};
 use crate::book::{Route, Stage};
 use crate::fresh;
 
@@ -112,16 +112,15 @@ impl Engine {
     pub fn fresh(routes: [Route; Engine::PATHS], count: usize) -> Outcome
         ensures { result ≡ rules.fresh routes count }
     {
-        let number = fresh::refusal(routes, count);
-        if number != Refusal::NONE {
+        if let Err(refusal) = fresh::check(routes, count) {
             let none = [fresh::no_path(); Engine::PATHS];
             return Outcome {
-                answer: Answer::Refused(number),
+                answer: Err(refusal),
                 book: fresh::book_of(none, 0),
             };
         }
         Outcome {
-            answer: Answer::Done,
+            answer: Ok(Answer::Done),
             book: fresh::book_of(fresh::fresh_paths(routes, count), count),
         }
     }

@@ -21,17 +21,17 @@ fn sound_routes(routes: [Route; Engine::PATHS], count: usize) -> bool
         .all(|route| route.zone <= Engine::ZONE_LIMIT)
 }
 
-// The number of the refusal of a fresh book, 0 where there is none.
-pub fn refusal(routes: [Route; Engine::PATHS], count: usize) -> u32
+// Whether a fresh book is refused.
+pub fn check(routes: [Route; Engine::PATHS], count: usize) -> Result<(), Refusal>
     ensures { result ≡ first_of (fresh_refusals routes count) }
 {
     if !book::sound_path_count(count) {
-        return Refusal::QUANTITY;
+        return Err(Refusal::Quantity);
     }
     if !sound_routes(routes, count) {
-        return Refusal::QUANTITY;
+        return Err(Refusal::Quantity);
     }
-    Refusal::NONE
+    Ok(())
 }
 
 // An empty path, which fills the slots past the book's paths.

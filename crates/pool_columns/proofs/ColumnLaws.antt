@@ -1,5 +1,5 @@
 -- Laws about the columns: which row of their table holds, and what is known where none does.
-use mathlib.Core.Path.{◌≡◌, refl, sym, ◌∙◌, ap}
+use mathlib.Core.Path.{◌≡◌, sym, ◌∙◌, ap}
 use mathlib.Core.Bool.{Bool, true, false, ◌&&◌}
 use mathlib.Core.List.{List}
 use Prim.Native.Nat.{ℕ, ◌+◌, ◌*◌, ◌/◌, ◌≤◌, ◌<◌}
@@ -7,10 +7,12 @@ use native.Mathlib.Nat.{mul-le-mul_left, div-le_of_le-mul, mul_comm}
 use native.Mathlib.Omega.{arith}
 use lib.Dec.{leb, eqb}
 use borrow.Author.Tests.{leb-true, lt-ltb, eq-eqb, ne_eqb, eqb-false, not-false}
+use Rattle.std.specs.Prelude.{Err}
 use Rattle.market.proofs.Tables.{none-hold}
 use Rattle.market.proofs.Tests.{left-true, right-true}
-use Rattle.market.specs.Answers.{first_of}
+use Rattle.market.specs.Answers.{first_of, no_refusal}
 use Rattle.market.specs.Limits.{column_limit}
+use Rattle.market.specs.declared.answer.Refusal.{Refusal}
 use Rattle.pool_sharing.specs.Sharing.{total}
 use Rattle.pool_columns.specs.Pools.{all_charges, provincial_pool, export_pool, provincial_weights, export_weights, columns_within, unshared, column_refusals}
 use Rattle.pool_columns.specs.declared.Columns.{Columns}
@@ -60,24 +62,24 @@ shared-out pool weights h some =
 pub unshared-is : (pool p : ℕ) (weights w : List ℕ) (r t : Bool) → r ≡ unshared p w → p ≡ pool → w ≡ weights → r ≡ t → unshared pool weights ≡ t
 unshared-is pool p weights w r t is ps ws rt = rw (← ps, ← ws) (sym is ∙ rt)
 
--- the number that the columns' table gives, by the first row that holds
+-- the verdict of the columns' table, by the first row that holds
 module _ (d : ℕ) (cols : Columns) where
-  pub is-beyond : columns_within cols ≡ false → 33 ≡ first_of (column_refusals d cols)
+  pub is-beyond : columns_within cols ≡ false → Err Refusal.Columns ≡ first_of (column_refusals d cols)
   is-beyond h = rw h
 
   module _ (within : columns_within cols ≡ true) where
-    pub is-uncharged : all_charges cols ≡ 0 → 33 ≡ first_of (column_refusals d cols)
+    pub is-uncharged : all_charges cols ≡ 0 → Err Refusal.Columns ≡ first_of (column_refusals d cols)
     is-uncharged h = rw (within, eq-eqb (all_charges cols) 0 h)
 
     module _ (charged : all_charges cols ≡ 0 → ⊥) where
-      pub provincial-unshared : unshared (provincial_pool d cols) (provincial_weights cols) ≡ true → 33 ≡ first_of (column_refusals d cols)
+      pub provincial-unshared : unshared (provincial_pool d cols) (provincial_weights cols) ≡ true → Err Refusal.Columns ≡ first_of (column_refusals d cols)
       provincial-unshared h = rw (within, ne_eqb (all_charges cols) 0 charged, h)
 
       module _ (first : unshared (provincial_pool d cols) (provincial_weights cols) ≡ false) where
-        pub export-unshared : unshared (export_pool d cols) (export_weights cols) ≡ true → 33 ≡ first_of (column_refusals d cols)
+        pub export-unshared : unshared (export_pool d cols) (export_weights cols) ≡ true → Err Refusal.Columns ≡ first_of (column_refusals d cols)
         export-unshared h = rw (within, ne_eqb (all_charges cols) 0 charged, first, h)
 
-        pub is_shared : unshared (export_pool d cols) (export_weights cols) ≡ false → 0 ≡ first_of (column_refusals d cols)
+        pub is_shared : unshared (export_pool d cols) (export_weights cols) ≡ false → no_refusal ≡ first_of (column_refusals d cols)
         is_shared h = rw (within, ne_eqb (all_charges cols) 0 charged, first, h)
 
 -- what is known where no row holds: a total that can be shared
@@ -87,9 +89,9 @@ pub record Shareable (d : ℕ) (cols : Columns) : Type 0 where
   pub provincial : 0 < provincial_pool d cols → 0 < total (provincial_weights cols)
   pub export : 0 < export_pool d cols → 0 < total (export_weights cols)
 
-pub shareable : (d : ℕ) (cols : Columns) → first_of (column_refusals d cols) ≡ 0 → Shareable d cols
+pub shareable : (d : ℕ) (cols : Columns) → first_of (column_refusals d cols) ≡ no_refusal → Shareable d cols
 shareable d cols h =
-    let none = none-hold (column_refusals d cols) refl h in
+    let none = none-hold (column_refusals d cols) h in
     record {
       within = not-false (columns_within cols) none.0;
       charged = above (all_charges cols) (eqb-false (all_charges cols) 0 none.1.0);

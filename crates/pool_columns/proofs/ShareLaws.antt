@@ -4,7 +4,7 @@ use mathlib.Core.List.{List}
 use Prim.Native.Nat.{ℕ, zero, suc, ◌-◌, ◌≤◌, ◌<◌}
 use native.Mathlib.Omega.{arith}
 use lib.ListN.{length, replicate}
-use Rattle.market.specs.Answers.{first_of}
+use Rattle.market.specs.Answers.{first_of, no_refusal}
 use Rattle.market.specs.Limits.{pool_limit, column_limit}
 use Rattle.pool_sharing.proofs.Eligible.{eligible-length, eligible-total}
 use Rattle.pool_sharing.proofs.SharingLaws.{shares-total, shares-length, nothing-shared}
@@ -31,7 +31,7 @@ pub ready-total : (pool : ℕ) (weights shares : List ℕ) → Ready pool weight
 ready-total pool weights shares ready is = omega (arith, ap total is ∙ pool-total pool weights ready.1.1, ready.0)
 
 -- where the columns are not refused, both pools can be shared
-module _ (d : ℕ) (cols : Columns) (most : d ≤ pool_limit) (none : first_of (column_refusals d cols) ≡ 0) where
+module _ (d : ℕ) (cols : Columns) (most : d ≤ pool_limit) (none : first_of (column_refusals d cols) ≡ no_refusal) where
   pub provincial-ready : Ready (provincial_pool d cols) (provincial_weights cols)
   provincial-ready =
       let clear = shareable d cols none in
@@ -85,7 +85,7 @@ module _ (d : ℕ) (cols : Columns) (n : ℕ) (alike : Alike cols n) where
       ∙ provincial-length
 
   -- the shares add up to the total
-  pub shares-add-up : first_of (column_refusals d cols) ≡ 0 → total (shares_of d cols) ≡ d
+  pub shares-add-up : first_of (column_refusals d cols) ≡ no_refusal → total (shares_of d cols) ≡ d
   unfolding shares_of
   shares-add-up none =
       let clear = shareable d cols none in

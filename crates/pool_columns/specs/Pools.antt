@@ -3,6 +3,7 @@ use Rattle.std.specs.List.{zip}
 use Rattle.std.specs.Prelude.{Bool, not, ◌&&◌, List, [], ◌∷◌, map, ℕ, ◌+◌, ◌-◌, ◌*◌, ◌/◌, leb, ltb, eqb}
 use Rattle.market.specs.Answers.{Row, ◌gives◌}
 use Rattle.market.specs.Limits.{column_limit}
+use Rattle.market.specs.declared.answer.Refusal.{Refusal}
 use Rattle.pool_sharing.specs.Sharing.{total, eligible, pool_shares}
 use Rattle.pool_columns.specs.declared.Columns.{Columns}
 
@@ -52,8 +53,8 @@ unshared pool weights = ltb 0 pool && eqb (total weights) 0
 -- rule 13.33: a column adds up to too much, there are no charges, or one of the pools cannot be shared
 abbrev pub column_refusals : ℕ → Columns → List Row
 column_refusals d cols =
-    (not (columns_within cols) gives 33)
-    ∷ (eqb (all_charges cols) 0 gives 33)
-    ∷ (unshared (provincial_pool d cols) (provincial_weights cols) gives 33)
-    ∷ (unshared (export_pool d cols) (export_weights cols) gives 33)
+    (not (columns_within cols) gives Refusal.Columns)
+    ∷ (eqb (all_charges cols) 0 gives Refusal.Columns)
+    ∷ (unshared (provincial_pool d cols) (provincial_weights cols) gives Refusal.Columns)
+    ∷ (unshared (export_pool d cols) (export_weights cols) gives Refusal.Columns)
     ∷ []

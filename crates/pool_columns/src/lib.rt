@@ -2,7 +2,7 @@
 #![tactic(auto)]
 
 ghost use Rattle.std.specs.Prelude.{◌≡◌, true, ◌≤◌, ◌<◌};
-ghost use Rattle.market.specs.Answers.{first_of};
+ghost use Rattle.market.specs.Answers.{no_refusal, first_of};
 ghost use Rattle.market.specs.Books.{cents, in_cents};
 ghost use Rattle.market.specs.Limits.{pool_limit};
 ghost use Rattle.pool_sharing.specs.Sharing.{total};
@@ -71,25 +71,25 @@ fn is_unshared(pool: Cents, weights: [u32; Engine::BIDDERS]) -> bool
     0 < pool.0 && pool_sharing::column_total(weights) == 0
 }
 
-// The refusal of the columns, 0 where there is none.
-pub fn refusal(total: Cents, columns: Columns) -> u32
+// Whether the columns are refused.
+pub fn check(total: Cents, columns: Columns) -> Result<(), Refusal>
     requires { total.0 ≤ pool_limit }
     ensures { result ≡ first_of (column_refusals total.0 columns) }
 {
     if !columns_within(columns) {
-        return Refusal::COLUMNS;
+        return Err(Refusal::Columns);
     }
     if all_charges(columns) == 0 {
-        return Refusal::COLUMNS;
+        return Err(Refusal::Columns);
     }
     let pool = provincial_pool(total, columns);
     if is_unshared(pool, provincial_weights(columns)) {
-        return Refusal::COLUMNS;
+        return Err(Refusal::Columns);
     }
     if is_unshared(Cents(total.0 - pool.0), export_weights(columns)) {
-        return Refusal::COLUMNS;
+        return Err(Refusal::Columns);
     }
-    Refusal::NONE
+    Ok(())
 }
 
 // The sum of each participant's cents in two lists.
@@ -107,7 +107,7 @@ fn add_shares(
 // Each participant's share of a total.
 pub fn shares_of(total: Cents, columns: Columns) -> [Cents; Engine::BIDDERS]
     requires total_le_pool_limit { total.0 ≤ pool_limit }
-    requires columns_value { first_of (column_refusals total.0 columns) ≡ 0 }
+    requires columns_value { first_of (column_refusals total.0 columns) ≡ no_refusal }
     ensures { in_cents result ≡ shares_of total.0 columns }
 {
     let pool = provincial_pool(total, columns);

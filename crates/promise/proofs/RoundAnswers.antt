@@ -8,9 +8,10 @@ use native.Mathlib.Omega.{arith}
 use lib.Dec.{eqb, ltb}
 use lib.ListN.{length, get_or}
 use Rattle.market.proofs.Tables.{none-refused}
-use Rattle.market.specs.Answers.{answer_number}
+use Rattle.market.specs.Answers.{answer_number, no_refusal}
 use Rattle.market.specs.Limits.{bid_limit, path_limit, header_words}
 use Rattle.market.specs.declared.book.Book.{Book}
+use Rattle.market.specs.Books.{with_front}
 use Rattle.round_bids.proofs.Walk.{bids-few}
 use Rattle.round_bids.specs.Bids.{Bid, bids_of}
 use Rattle.round_award_rules.proofs.BestAward.{best-award, award-legal, award-value, charge-within}
@@ -18,7 +19,6 @@ use Rattle.round_award_rules.proofs.RoundClaims.{EachBid}
 use Rattle.round_award_rules.specs.Awards.{next_at, claims_of, Award, awards_of, won_by, charge_of}
 use Rattle.round_award_rules.specs.Rivals.{Rival, Legal, rival_value, filled_value, total_value_from, total_value, filled_at, filled_from, filled_award}
 use Rattle.round_awards.proofs.TableLaws.{below_at}
-use Rattle.market.specs.Books.{with_front}
 use Rattle.call_round.proofs.ReadyLaws.{listed}
 use Rattle.call_round.proofs.RoundBounds.{no_bid}
 use Rattle.call_round.specs.Answers.{won_in, charge_in}
@@ -29,7 +29,7 @@ use Rattle.call_round.proofs.RoundLawful.{round-lawful}
 use Rattle.call_rules.proofs.Decides.{list-changes}
 use Rattle.call_rules.proofs.StepLaws.{same-paths}
 use Rattle.call_rules.specs.Rule.{Rule}
-use Rattle.call_rules.specs.Steps.{ruling_of, refusal_of, outcome_of, list_after, to_answers, to_results}
+use Rattle.call_rules.specs.Steps.{ruling_of, verdict_of, outcome_of, list_after, to_answers, to_results}
 use Rattle.engine.specs.Lent.{Lent, lists_of}
 use Rattle.engine.specs.declared.calls.Call.TheVariants.{Round}
 use Rattle.promise.specs.Answered.{ListsTold, NoRivalAbove, OwnAward, BidsWithin, BiddersWithin, of_bidder}
@@ -93,9 +93,9 @@ module _ (b : Book) (words : List ℕ) (l : Lent) (none : answer_number (round_m
   after = (outcome_of rule b words).book
 
   -- nothing refuses it
-  cleared : 0 ≡ refusal_of rule b words
+  cleared : no_refusal ≡ verdict_of rule b words
   unfolding outcome_of
-  cleared = sym (none-refused b (refusal_of rule b words) (ruling_of rule b words).outcome none)
+  cleared = sym (none-refused b (verdict_of rule b words) (ruling_of rule b words).outcome none)
 
   pub opened : RoundOpen b words l.bids l.answers l.results l.scratch
   opened = round-cleared b words l.bids l.answers l.results l.scratch (sym cleared)
@@ -107,11 +107,11 @@ module _ (b : Book) (words : List ℕ) (l : Lent) (none : answer_number (round_m
   -- its lists, and the number of the book's paths
   pub answers-are : answers ≡ with_front (bid_answers_now b bids) l.answers
   unfolding round
-  answers-are = sym (list-changes rule b words 0 cleared refl to_answers l.answers)
+  answers-are = sym (list-changes rule b words no_refusal cleared refl to_answers l.answers)
 
   pub results-are : results ≡ with_front (path_answers_now b bids) l.results
   unfolding round
-  results-are = sym (list-changes rule b words 0 cleared refl to_results l.results)
+  results-are = sym (list-changes rule b words no_refusal cleared refl to_results l.results)
 
   pub same_count : after.path_count ≡ b.path_count
   same_count = same-paths rule (lists_of l) (round-lawful l.bids (lists_of l) l.scratch) b words

@@ -5,7 +5,7 @@ use mathlib.Core.List.{List, []}
 use Prim.Native.Nat.{ℕ, ◌≤◌}
 use lib.IntN.{ℤ, pos, ◌+ℤ◌, ◌-ℤ◌, +ℤ_idl}
 use lib.ListN.{length}
-use Rattle.market.specs.Answers.{first_of, answer_number}
+use Rattle.market.specs.Answers.{first_of, answer_number, no_refusal}
 use Rattle.market.specs.Fresh.{fresh_refusals, fresh_book}
 use Rattle.market.specs.Limits.{register_words}
 use Rattle.market.specs.declared.book.Book.{Book}
@@ -35,7 +35,7 @@ of-rounds holds fact b words r is =
     made : Call → Made
     made what = engine_made b words (record { what = what; lent = r.lent })
 
-module _ (routes : List Route) (paths : ℕ) (words : List ℕ) (calls : List Request) (answered : first_of (fresh_refusals routes paths) ≡ 0) (long : register_words ≤ length words) where
+module _ (routes : List Route) (paths : ℕ) (words : List ℕ) (calls : List Request) (answered : first_of (fresh_refusals routes paths) ≡ no_refusal) (long : register_words ≤ length words) where
   abbrev start : Book
   start = fresh_book routes paths
 

@@ -1,8 +1,8 @@
 -- Every row is computed: both sides of an equation come to the same numbers.
 use mathlib.Core.Path.{refl}
-use Rattle.text_numbers.specs.Decimal.{decimal}
 use Rattle.market.specs.Fresh.{fresh, fresh_book}
 use Rattle.market.specs.Sound.{sound_book}
+use Rattle.text_numbers.specs.Decimal.{decimal}
 use Rattle.pool_sharing.specs.Sharing.{pool_shares}
 use Rattle.pool_columns.specs.Pools.{shares_of}
 use Rattle.call_funding.specs.Deposit.{deposit}
@@ -14,7 +14,7 @@ use Rattle.call_payout.specs.Payout.{amounts_of, payout}
 use Rattle.call_disburse.specs.Disbursement.{settle}
 use Rattle.round_award_rules.specs.Awards.{awards_of}
 use Rattle.call_round.specs.Round.{awards_now, round}
-use Rattle.call_rules.specs.Steps.{refusal_of, outcome_of, words_after, list_after}
+use Rattle.call_rules.specs.Steps.{verdict_of, outcome_of, words_after, list_after}
 use Rattle.sheet_form.specs.Form.{form_of}
 use Rattle.sheet_form.specs.Reading.{sheet_in}
 use Rattle.award_sheet_round.specs.RoundLines.{round_text}
@@ -34,7 +34,7 @@ unfolding fresh_book sound_book deposit «open» round awards_now awards_of pay 
 sheet = record { answered = refl; bids = refl; path = refl; bidder-3 = refl; bidder-7 = refl; pending = refl }
 
 sheet-text : SheetText
-unfolding output_of sheet_output output_from sheet_round opened form_of sheet_in decimal award_text round_text refusal_of outcome_of words_after list_after deposit
+unfolding output_of sheet_output output_from sheet_round opened form_of sheet_in decimal award_text round_text verdict_of outcome_of words_after list_after deposit
     fresh fresh_book «open» sound_book round awards_now awards_of
 sheet-text = record { award = refl; refused = refl }
 

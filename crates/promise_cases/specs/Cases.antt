@@ -1,6 +1,6 @@
 -- Starred cases with their numbers, proved of the rules themselves and not only tested: rules 6.3 to 6.7, rules 7.6 to 7.18, rules 8.5 to 8.7,
 -- rule 10.4 and rules 11.3 to 11.7. Each is a list of calls that the rules take from a fresh book, and what they then say.
-use Rattle.std.specs.Prelude.{◌≡◌, false, List, [], ◌∷◌, ◌++◌, map, ℕ, ◌+◌, ◌-◌, ◌*◌, ℤ, pos, neg_ℤ, length, take, drop, replicate}
+use Rattle.std.specs.Prelude.{Result, ◌≡◌, false, List, [], ◌∷◌, ◌++◌, map, ℕ, ◌+◌, ◌-◌, ◌*◌, ℤ, pos, neg_ℤ, length, take, drop, replicate, Ok}
 use Rattle.market.specs.Books.{cents, day_number, paths_of, bidder_of, offer_of}
 use Rattle.market.specs.Fresh.{fresh_book}
 use Rattle.market.specs.Limits.{bidder_limit, bid_answer_size, bid_answer_words, path_answer_size, path_answer_words, scratch_words, zones, reserve}
@@ -14,6 +14,7 @@ use Rattle.market.specs.declared.book.Period.{Period}
 use Rattle.market.specs.declared.book.Route.{Route}
 use Rattle.market.specs.declared.book.Stage.{Stage}
 use Rattle.market.specs.declared.book.Stage.TheVariants as stages
+use Rattle.market.specs.declared.answer.Refusal.{Refusal}
 use Rattle.call_funding.specs.declared.Funds.TheVariants.{Cash, Letter}
 use Rattle.register.specs.Words.{encoded_entry}
 use Rattle.engine.specs.Lent.{Lent, lent}
@@ -94,7 +95,7 @@ lastly read none (m ∷ ms) = lastly read (read m) ms
 -- ---- What is read
 
 -- the answer of a call
-abbrev pub answer : Made → Answer
+abbrev pub answer : Made → Result Answer Refusal
 answer m = m.reply.answer
 
 -- the words of the first `bids` bids (rule 7.17)
@@ -227,13 +228,13 @@ disbursing = run (export_path ∷ []) (plain (Rent (cents (reserve + 1000))) ∷
 
 -- rules 7.10 and 7.15: a round without bids sells nothing and has no price, and the book is idle after it
 pub record NoBids : Type 0 where
-  pub answered : map answer no_bids ≡ Done ∷ Bids 0 ∷ []
+  pub answered : map answer no_bids ≡ Ok Done ∷ Ok (Bids 0) ∷ []
   pub path : lastly path_answers [] no_bids ≡ 60 ∷ 0 ∷ 0 ∷ []
   pub idle-after : map stage no_bids ≡ stages.Open Short 1 month ∷ stages.Idle ∷ []
 
 -- rules 7.6 to 7.14: the starred sheet, with the words of its bids and its path, its bidders and its entries
 pub record SheetCase : Type 0 where
-  pub answered : map answer sheet ≡ Done ∷ Done ∷ Done ∷ Bids 2 ∷ []
+  pub answered : map answer sheet ≡ Ok Done ∷ Ok Done ∷ Ok Done ∷ Ok (Bids 2) ∷ []
   pub bids :
       lastly (bid_answers 2) [] sheet ≡ 1 ∷ 850000 ∷ 50 ∷ 750000 ∷ 1 ∷ 600000 ∷ 10 ∷ 150000 ∷ []
   pub path : lastly path_answers [] sheet ≡ 60 ∷ 60 ∷ 15000 ∷ []
@@ -266,7 +267,7 @@ pub record Admission : Type 0 where
 pub record Defaults : Type 0 where
   pub forfeit-3 : lastly account (pos 0) (defaulting 3) ≡ pos 75000
   pub cash-3 : lastly (money 3) [] (defaulting 3) ≡ 25000 ∷ 0 ∷ 0 ∷ 0 ∷ 0 ∷ []
-  pub draw-7 : lastly answer Done (defaulting 7) ≡ Drawn (cents 15000)
+  pub draw-7 : lastly answer (Ok Done) (defaulting 7) ≡ Ok (Drawn (cents 15000))
 
 -- rule 10.4: 100 MW earn 100,000 on an X path and nothing on an M path at 1,000, and 150,000 on an M path at −1,500
 pub record Earnings : Type 0 where

@@ -4,6 +4,7 @@ use Rattle.market.specs.Answers.{Row, ◌gives◌}
 use Rattle.market.specs.Books.{every}
 use Rattle.market.specs.Limits.{entry_limit, entry_words, register_words}
 use Rattle.market.specs.Sound.{sound_book}
+use Rattle.market.specs.declared.answer.Refusal.{Refusal}
 use Rattle.market.specs.declared.book.Book.{Book}
 use Rattle.market.specs.declared.book.Entry.{Entry}
 use Rattle.register.specs.Entries.{sound_entry}
@@ -19,11 +20,11 @@ counted_entries b words = entries_of words b.entries
 
 -- rule 13.1: a register with too few words
 abbrev pub short_register : List ℕ → Row
-short_register words = ltb (length words) register_words gives 1
+short_register words = ltb (length words) register_words gives Refusal.ShortBuffer
 
 -- rule 13.2: the book, or one of the counted entries, is not sound
 abbrev pub unsound_register : Book → List Entry → Row
-unsound_register b es = not (sound_book b && sound_entries b es) gives 2
+unsound_register b es = not (sound_book b && sound_entries b es) gives Refusal.Unsound
 
 -- rule 3.4: a call that is lent the register tests its length, and then the book and every counted entry
 abbrev pub register_refusals : Book → List ℕ → List Row

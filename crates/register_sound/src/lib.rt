@@ -47,20 +47,18 @@ fn sound_entries(words: &[u32], count: usize, paths: usize) -> bool
     true
 }
 
-// Refusal 1 or 2 of a call that is lent the register; 0 where there is neither.
-pub fn refusal(book: Book, words: &[u32]) -> u32
+// Whether a call that is lent the register is refused with 1 or 2.
+pub fn check(book: Book, words: &[u32]) -> Result<(), Refusal>
     ensures { result ≡ first_of (register_refusals book words.now) }
 {
     if words.len() < Engine::REGISTER_WORDS {
-        return Refusal::SHORT_BUFFER;
+        return Err(Refusal::ShortBuffer);
     }
     if !book_sound::sound_book(book) {
-        return Refusal::UNSOUND;
+        return Err(Refusal::Unsound);
     }
-    let count = book.entries;
-    let paths = book.path_count;
-    if !sound_entries(words, count, paths) {
-        return Refusal::UNSOUND;
+    if !sound_entries(words, book.entries, book.path_count) {
+        return Err(Refusal::Unsound);
     }
-    Refusal::NONE
+    Ok(())
 }

@@ -71,9 +71,9 @@ fn pair_of(bidder: u32, path: u32) -> usize
     (bidder as usize) * Engine::PATHS + (path as usize)
 }
 
-// The refusal of a list of bids, where the book has `paths` paths; 0 where nothing is refused. `seen` has a mark for each
-// bidder and path that has a bid so far, and `stamp` is the latest bid's.
-pub fn refusal(words: &[u32], paths: usize) -> u32
+// Whether a list of bids is refused, where the book has `paths` paths. `seen` has a mark for each bidder and path that has a
+// bid so far, and `stamp` is the latest bid's.
+pub fn check(words: &[u32], paths: usize) -> Result<(), Refusal>
     requires { paths ≤ path_limit }
     ensures { result ≡ first_of (list_refusals paths words.now) }
 {
@@ -82,19 +82,19 @@ pub fn refusal(words: &[u32], paths: usize) -> u32
     let mut at: usize = 0;
     while at < words.len() {
         if !sound_bid(words, at, paths) {
-            return Refusal::BID;
+            return Err(Refusal::Bid);
         }
         let header = round_bids::header_at(words, at);
         let pair = pair_of(header.bidder, header.path);
         if seen[pair] {
-            return Refusal::SECOND_BID;
+            return Err(Refusal::SecondBid);
         }
         if header.stamp < stamp {
-            return Refusal::STAMP;
+            return Err(Refusal::Stamp);
         }
         seen[pair] = true;
         stamp = header.stamp;
         at = round_bids::bid_end(words, at);
     }
-    Refusal::NONE
+    Ok(())
 }

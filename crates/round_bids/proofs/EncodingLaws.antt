@@ -9,11 +9,13 @@ use lib.Dec.{leb, ltb}
 use lib.ListN.{length, get_or, drop, length-append, length-drop, drop_of_length-le}
 use lib.Seq.{drop-cons, get_or-drop, drop-drop, drop-append_seam}
 use borrow.Author.Tests.{le-leb, lt-leb, leb-true, le-ltb, ltb-false, not-true, not-false}
+use Rattle.std.specs.Prelude.{Err}
 use Rattle.market.proofs.Every.{both_true}
 use Rattle.market.proofs.Tests.{left-true, right-true}
 use Rattle.market.proofs.Tables.{none-hold, neither-holds}
-use Rattle.market.specs.Answers.{Row, first_of}
+use Rattle.market.specs.Answers.{Row, first_of, no_refusal}
 use Rattle.market.specs.Limits.{header_words, pair_words}
+use Rattle.market.specs.declared.answer.Refusal.{Refusal}
 use Rattle.round_bids.specs.Bids.{Bid, header_at, laminations_at, pairs_from, bid_end, bid_at, bids_from, bids_of}
 use Rattle.round_bids.specs.Encoding.{pairs_encoded, bid_encoded, encoded, right_after, right_bids}
 use Rattle.round_bids.specs.BidRefusals.{sound_bid, whole_at, has_bid, stamp_of, bid_refusals, refusals_from, list_refusals, sound_bid_at}
@@ -71,10 +73,10 @@ module _ (paths : ℕ) (words : List ℕ) (at : ℕ) (earlier : List Bid) where
     pub first : has_bid (bid_at words at).bidder (bid_at words at).path earlier ≡ false
     pub rises : ltb (bid_at words at).stamp (stamp_of earlier) ≡ false
 
-  pub right-at : (rest : List Row) → first_of (bid_refusals paths words at earlier ++ rest) ≡ 0 → RightAt × (first_of rest ≡ 0)
+  pub right-at : (rest : List Row) → first_of (bid_refusals paths words at earlier ++ rest) ≡ no_refusal → RightAt × (first_of rest ≡ no_refusal)
   right-at rest h =
-      let parts = neither-holds (bid_refusals paths words at earlier) rest refl h in
-      let none = none-hold (bid_refusals paths words at earlier) refl parts.0 in
+      let parts = neither-holds (bid_refusals paths words at earlier) rest h in
+      let none = none-hold (bid_refusals paths words at earlier) parts.0 in
       (record { good = not-false (sound_bid_at paths words at) none.0; first = none.1.0; rises = none.1.1.0 }, parts.1)
 
 module _ (paths : ℕ) (words : List ℕ) where
@@ -86,7 +88,7 @@ module _ (paths : ℕ) (words : List ℕ) where
 
   -- the words from a place on, where nothing refuses them: they encode the bids read there, and a round takes these bids
   reads :
-      (more at : ℕ) (earlier : List Bid) → at ≤ length words → length words ≤ more + at → first_of (refusals_from more paths words at earlier) ≡ 0
+      (more at : ℕ) (earlier : List Bid) → at ≤ length words → length words ≤ more + at → first_of (refusals_from more paths words at earlier) ≡ no_refusal
       → (encoded (bids_from more words at) ≡ drop at words) × (right_after paths earlier (bids_from more words at) ≡ true)
   reads zero at earlier within enough h = (sym (drop_of_length-le words {i = at} (omega arith)), refl)
   reads (suc more) at earlier within enough h =
@@ -95,9 +97,9 @@ module _ (paths : ℕ) (words : List ℕ) where
     where
       go :
           (t :
-          Bool) → leb (length words) at ≡ t → first_of (cond t [] (bid_refusals paths words at earlier ++ after-rows more at earlier)) ≡ 0
+          Bool) → leb (length words) at ≡ t → first_of (cond t [] (bid_refusals paths words at earlier ++ after-rows more at earlier)) ≡ no_refusal
           →
-          (bid_end words at ≤ length words → first_of (after-rows more at earlier) ≡ 0
+          (bid_end words at ≤ length words → first_of (after-rows more at earlier) ≡ no_refusal
           → (encoded (bids_from more words (bid_end words at)) ≡ drop (bid_end words at) words) × (right_after paths (bid_at words at ∷ earlier) (bids_from more words (bid_end words at)) ≡ true))
           → (encoded (bids-if t more at) ≡ drop at words) × (right_after paths earlier (bids-if t more at) ≡ true)
       go true e k next = (sym (drop_of_length-le words (leb-true (length words) at e)), refl)
@@ -112,10 +114,10 @@ module _ (paths : ℕ) (words : List ℕ) where
           )
 
   -- a list that is not refused encodes its bids, and a round takes these bids
-  pub encodes-back : first_of (list_refusals paths words) ≡ 0 → encoded (bids_of words) ≡ words
+  pub encodes-back : first_of (list_refusals paths words) ≡ no_refusal → encoded (bids_of words) ≡ words
   encodes-back h = (reads (length words) 0 [] (omega arith) (omega arith) h).0
 
-  pub bids-right : first_of (list_refusals paths words) ≡ 0 → right_bids paths (bids_of words) ≡ true
+  pub bids-right : first_of (list_refusals paths words) ≡ no_refusal → right_bids paths (bids_of words) ≡ true
   bids-right h = (reads (length words) 0 [] (omega arith) (omega arith) h).1
 
 -- ---- What is encoded is read
@@ -178,7 +180,7 @@ module _ (paths : ℕ) (words : List ℕ) where
   reads-right :
       (bids :
       List Bid) (more at : ℕ) (earlier : List Bid) → drop at words ≡ encoded bids → at ≤ length words → length words ≤ more + at → right_after paths earlier bids ≡ true
-      → (first_of (refusals_from more paths words at earlier) ≡ 0) × (bids_from more words at ≡ bids)
+      → (first_of (refusals_from more paths words at earlier) ≡ no_refusal) × (bids_from more words at ≡ bids)
   reads-right [] more at earlier is within enough h = go more
     where
       ends : leb (length words) at ≡ true
@@ -186,7 +188,7 @@ module _ (paths : ℕ) (words : List ℕ) where
           let none : length words - at ≡ 0 = sym (length-drop at words) ∙ ap (λ (l : List ℕ). length l) is in
           le-leb (length words) at (omega (arith, none))
 
-      go : (n : ℕ) → (first_of (refusals_from n paths words at earlier) ≡ 0) × (bids_from n words at ≡ [])
+      go : (n : ℕ) → (first_of (refusals_from n paths words at earlier) ≡ no_refusal) × (bids_from n words at ≡ [])
       go zero = (refl, refl)
       go (suc n) = (
         ap (λ (t : Bool). first_of (cond t [] (bid_refusals paths words at earlier ++ after-rows paths words n at earlier))) ends,
@@ -213,15 +215,16 @@ module _ (paths : ℕ) (words : List ℕ) where
       let next = reads-right bids more (bid_end words at) (b ∷ earlier) (rest-there words (encoded bids) b at is) whole (omega arith) (right-true (t1 && t2 && t3) t4 h) in (
         ap (λ (t : Bool). first_of (cond t [] (bid_refusals paths words at earlier ++ after-rows paths words more at earlier))) ends
             ∙ ap
-            (λ (t : Bool). cond (not t) 14
-            (cond (has_bid (bid_at words at).bidder (bid_at words at).path earlier) 15 (cond (ltb (bid_at words at).stamp (stamp_of earlier)) 16 (first_of (after-rows paths words more at earlier)))))
+            (λ (t : Bool). cond (not t) (Err Refusal.Bid)
+            (cond (has_bid (bid_at words at).bidder (bid_at words at).path earlier) (Err Refusal.SecondBid)
+            (cond (ltb (bid_at words at).stamp (stamp_of earlier)) (Err Refusal.Stamp) (first_of (after-rows paths words more at earlier)))))
             good
-            ∙ ap₂ (λ (s t : Bool). cond s 15 (cond t 16 (first_of (after-rows paths words more at earlier)))) first rises
+            ∙ ap₂ (λ (s t : Bool). cond s (Err Refusal.SecondBid) (cond t (Err Refusal.Stamp) (first_of (after-rows paths words more at earlier)))) first rises
             ∙ ap (λ (k : Bid). first_of (refusals_from more paths words (bid_end words at) (k ∷ earlier))) read
             ∙ next.0,
         ap (λ (t : Bool). bids-if paths words t more at) ends ∙ ap₂ ◌∷◌ read next.1,
       )
 
 -- the words of bids that a round takes are not refused, and are read as these bids
-pub taken-read : (paths : ℕ) (bids : List Bid) → right_bids paths bids ≡ true → (first_of (list_refusals paths (encoded bids)) ≡ 0) × (bids_of (encoded bids) ≡ bids)
+pub taken-read : (paths : ℕ) (bids : List Bid) → right_bids paths bids ≡ true → (first_of (list_refusals paths (encoded bids)) ≡ no_refusal) × (bids_of (encoded bids) ≡ bids)
 taken-read paths bids h = reads-right paths (encoded bids) bids (length (encoded bids)) 0 [] refl (omega arith) (omega arith) h

@@ -8,8 +8,10 @@ use lib.Dec.{ltb, eqb}
 use lib.ListN.{length, get_or, set, replicate, length-set, get_or-replicate}
 use lib.Seq.{get_or-set_same, get_or-set_other}
 use borrow.Author.Tests.{le-leb, lt-leb, lt-ltb, le-ltb, eqb-true, eqb-false}
-use Rattle.market.specs.Answers.{first_of}
+use Rattle.std.specs.Prelude.{Err}
+use Rattle.market.specs.Answers.{first_of, no_refusal, Verdict}
 use Rattle.market.specs.Limits.{bidder_limit, path_limit}
+use Rattle.market.specs.declared.answer.Refusal.{Refusal}
 use Rattle.round_bids.specs.Bids.{Bid, header_at, bid_at, bid_end}
 use Rattle.round_bids.specs.BidRefusals.{has_bid, stamp_of, bid_refusals, refusals_from, list_refusals, sound_bid_at}
 use Rattle.round_bids.specs.declared.Header.{Header}
@@ -79,10 +81,10 @@ set-mark seen b p bidder path had long bl pl ql was = go (eqb b bidder) (eqb p p
 
 module _ (paths : ℕ) (words : List ℕ) (at stamp : ℕ) (seen : List Bool) (tested : TestedBids paths words at stamp seen) where
   -- every bid has been tested
-  pub all_tested : length words ≤ at → first_of (list_refusals paths words) ≡ 0
+  pub all_tested : length words ≤ at → first_of (list_refusals paths words) ≡ no_refusal
   all_tested end = tested.decides ∙ go tested.more
     where
-      go : (more : ℕ) → first_of (refusals_from more paths words at tested.earlier) ≡ 0
+      go : (more : ℕ) → first_of (refusals_from more paths words at tested.earlier) ≡ no_refusal
       go zero = refl
       go (suc n) =
           ap (λ (t : Bool). first_of (cond t [] (bid_refusals paths words at tested.earlier ++ refusals_from n paths words (bid_end words at) (bid_at words at ∷ tested.earlier))))
@@ -99,11 +101,11 @@ module _ (paths : ℕ) (words : List ℕ) (at stamp : ℕ) (seen : List Bool) (t
         ≡ first_of (bid_refusals paths words at tested.earlier ++ refusals_from n paths words (bid_end words at) (bid_at words at ∷ tested.earlier))))
     here = first-of-bid paths words at tested.more tested.earlier below tested.enough
 
-    abbrev after : ℕ
+    abbrev after : Verdict
     after = first_of (refusals_from here.0 paths words (bid_end words at) (bid_at words at ∷ tested.earlier))
 
-    abbrev rows : Bool → Bool → Bool → ℕ
-    rows good second falls = cond (not good) 14 (cond second 15 (cond falls 16 after))
+    abbrev rows : Bool → Bool → Bool → Verdict
+    rows good second falls = cond (not good) (Err Refusal.Bid) (cond second (Err Refusal.SecondBid) (cond falls (Err Refusal.Stamp) after))
 
     splits :
         first_of (list_refusals paths words)
@@ -111,7 +113,7 @@ module _ (paths : ℕ) (words : List ℕ) (at stamp : ℕ) (seen : List Bool) (t
     splits = tested.decides ∙ here.1.1
 
     -- the bid here is bad
-    pub bad-bid : sound_bid_at paths words at ≡ false → first_of (list_refusals paths words) ≡ 14
+    pub bad-bid : sound_bid_at paths words at ≡ false → first_of (list_refusals paths words) ≡ Err Refusal.Bid
     bad-bid bad =
         splits
         ∙ ap (λ (t : Bool). rows t (has_bid (bid_at words at).bidder (bid_at words at).path tested.earlier) (ltb (bid_at words at).stamp (stamp_of tested.earlier))) bad
@@ -141,12 +143,12 @@ module _ (paths : ℕ) (words : List ℕ) (at stamp : ℕ) (seen : List Bool) (t
           ∙ ap₂ (rows true) has falls
 
       -- it is the second for its bidder and path
-      pub second-bid : get_or seen pair false ≡ true → first_of (list_refusals paths words) ≡ 15
+      pub second-bid : get_or seen pair false ≡ true → first_of (list_refusals paths words) ≡ Err Refusal.SecondBid
       second-bid second = sound-here ∙ ap (λ (t : Bool). rows true t (ltb h.stamp stamp)) second
 
       module _ (first : get_or seen pair false ≡ false) where
         -- its stamp falls
-        pub stamp-falls : h.stamp < stamp → first_of (list_refusals paths words) ≡ 16
+        pub stamp-falls : h.stamp < stamp → first_of (list_refusals paths words) ≡ Err Refusal.Stamp
         stamp-falls fall = sound-here ∙ ap₂ (rows true) first (lt-ltb h.stamp stamp fall)
 
         -- it is right, and now the bids up to its end are tested

@@ -8,7 +8,7 @@ use lib.Dec.{leb}
 use lib.ListN.{length}
 use borrow.Author.Tests.{le-leb, lt-leb, lt-ltb}
 use Rattle.market.proofs.Tests.{left-true, right-true}
-use Rattle.market.specs.Answers.{first_of}
+use Rattle.market.specs.Answers.{first_of, no_refusal}
 use Rattle.market.specs.Limits.{bidder_limit, lamination_limit, header_words, pair_words, bid_list_words, bid_limit}
 use Rattle.round_bids.specs.Bids.{Bid, header_of, header_at, bid_end, bid_at, bids_from, bids_of}
 use Rattle.round_bids.specs.BidRefusals.{whole_at, sound_header, sound_bid, sound_laminations, above_prices, bid_refusals, refusals_from, list_refusals, sound_bid_at, sound_from, sound_list}
@@ -29,22 +29,24 @@ right-more paths most words at le good =
     (right-true (sound_header paths h) (sound_laminations above_prices (bid_at words at).laminations) sound))
 
 -- each bid of a list that is not refused is whole and sound
-sound-after : (paths most more : ℕ) (words : List ℕ) (at : ℕ) (earlier : List Bid) → paths ≤ most → first_of (refusals_from more paths words at earlier) ≡ 0 → sound_from most more words at ≡ true
+sound-after :
+    (paths most more : ℕ) (words : List ℕ) (at : ℕ) (earlier : List Bid) → paths ≤ most
+    → first_of (refusals_from more paths words at earlier) ≡ no_refusal → sound_from most more words at ≡ true
 sound-after paths most zero words at earlier le h = refl
 sound-after paths most (suc more) words at earlier le h =
     go (leb (length words) at) h (λ k. sound-after paths most more words (bid_end words at) (bid_at words at ∷ earlier) le k)
   where
     go :
         (t :
-        Bool) → first_of (cond t [] (bid_refusals paths words at earlier ++ refusals_from more paths words (bid_end words at) (bid_at words at ∷ earlier))) ≡ 0
-        → (first_of (refusals_from more paths words (bid_end words at) (bid_at words at ∷ earlier)) ≡ 0 → sound_from most more words (bid_end words at) ≡ true)
+        Bool) → first_of (cond t [] (bid_refusals paths words at earlier ++ refusals_from more paths words (bid_end words at) (bid_at words at ∷ earlier))) ≡ no_refusal
+        → (first_of (refusals_from more paths words (bid_end words at) (bid_at words at ∷ earlier)) ≡ no_refusal → sound_from most more words (bid_end words at) ≡ true)
         → cond t true (sound_bid_at most words at && sound_from most more words (bid_end words at)) ≡ true
     go true k next = refl
     go false k next =
         let here = right-at paths words at earlier (refusals_from more paths words (bid_end words at) (bid_at words at ∷ earlier)) k in
         ap (λ (t : Bool). t && sound_from most more words (bid_end words at)) (right-more paths most words at le here.0.good) ∙ next here.1
 
-pub list-sound : (paths most : ℕ) (words : List ℕ) → paths ≤ most → first_of (list_refusals paths words) ≡ 0 → sound_list most words ≡ true
+pub list-sound : (paths most : ℕ) (words : List ℕ) → paths ≤ most → first_of (list_refusals paths words) ≡ no_refusal → sound_list most words ≡ true
 list-sound paths most words le h = sound-after paths most (length words) words 0 [] le h
 
 -- there are `k` bids before a place, and those from there on are whole and sound

@@ -2,6 +2,7 @@
 use Rattle.std.specs.Prelude.{◌≡◌, Bool, true, false, cond, not, ◌&&◌, ◌||◌, List, [], ◌∷◌, ◌++◌, ℕ, zero, suc, ◌+◌, ◌≤◌, leb, ltb, eqb, length}
 use Rattle.market.specs.Answers.{Row, ◌gives◌}
 use Rattle.market.specs.Limits.{path_limit, bidder_limit, lamination_limit, price_limit, quantity_limit, bid_list_words}
+use Rattle.market.specs.declared.answer.Refusal.{Refusal}
 use Rattle.round_bids.specs.Bids.{Bid, header_of, bid_at, bid_end}
 use Rattle.round_bids.specs.declared.Header.{Header}
 use Rattle.round_bids.specs.declared.Lamination.{Lamination}
@@ -47,9 +48,9 @@ stamp_of (b ∷ bs) = b.stamp
 -- rules 13.14, 13.15, 13.16 and 13.102: the rows of the bid at a place, in their order; `earlier` has the bids before it, latest first
 abbrev pub bid_refusals : ℕ → List ℕ → ℕ → List Bid → List Row
 bid_refusals paths words at earlier =
-    (not (whole_at words at && sound_bid paths (bid_at words at)) gives 14)
-    ∷ (has_bid (bid_at words at).bidder (bid_at words at).path earlier gives 15)
-    ∷ (ltb (bid_at words at).stamp (stamp_of earlier) gives 16)
+    (not (whole_at words at && sound_bid paths (bid_at words at)) gives Refusal.Bid)
+    ∷ (has_bid (bid_at words at).bidder (bid_at words at).path earlier gives Refusal.SecondBid)
+    ∷ (ltb (bid_at words at).stamp (stamp_of earlier) gives Refusal.Stamp)
     ∷ []
 
 -- rule 13.102: the rows of the bids from a place on, bid after bid, so that the first one with a fault decides; for no more bids than the first

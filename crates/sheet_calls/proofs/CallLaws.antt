@@ -2,7 +2,7 @@
 use mathlib.Core.Path.{◌≡◌, refl, sym, ◌∙◌, ap, ap₂}
 use mathlib.Core.Bool.{true}
 use mathlib.Core.List.{List, ◌++◌, map, map-append}
-use Prim.Native.Nat.{ℕ, zero, suc, ◌*◌, ◌-◌, ◌≤◌}
+use Prim.Native.Nat.{ℕ, ◌*◌, ◌-◌, ◌≤◌}
 use lib.ListN.{length, take, replicate, length-map}
 use lib.Seq.{take_all, take_at, take-append_seam}
 use borrow.Author.Tests.{not-false}
@@ -15,11 +15,14 @@ use Rattle.market.specs.Books.{every}
 use Rattle.market.specs.Fresh.{fresh_refusals, fresh_book, no_book, fresh}
 use Rattle.market.specs.Limits.{bidder_limit, path_limit, quantity_words}
 use Rattle.market.specs.Sound.{sound_path_count}
+use Rattle.market.specs.declared.answer.Answer.{Answer}
 use Rattle.market.specs.declared.answer.Outcome.{Outcome}
+use Rattle.std.specs.Prelude.{Result, Ok, Err}
 use Rattle.market.specs.declared.book.Book.{Book}
 use Rattle.market.specs.declared.book.Kind.{Kind}
 use Rattle.market.specs.declared.book.Period.{Period}
 use Rattle.market.specs.declared.book.Route.{Route}
+use Rattle.market.specs.declared.answer.Refusal.{Refusal}
 use Rattle.call_rules.specs.Steps.{outcome_of}
 use Rattle.call_funding.specs.Deposits.{unless_refused, and_then}
 use Rattle.call_open.specs.Open.{«open»}
@@ -36,7 +39,7 @@ pub fresh-few : (routes : List Route) (n : ℕ) → answer_number (fresh routes 
 unfolding fresh
 fresh-few routes n none =
     let free = none-refused no_book (first_of (fresh_refusals routes n)) (answered (fresh_book routes n)) none in
-    count-within n (not-false (sound_path_count n) (none-hold (fresh_refusals routes n) refl free).0)
+    count-within n (not-false (sound_path_count n) (none-hold (fresh_refusals routes n) free).0)
 
 -- ---- Images of slots
 
@@ -74,9 +77,9 @@ quantities-filled ps few =
 
 -- ---- The whole
 
-unless-alike : (n : ℕ) (done a b : Outcome) → (n ≡ 0 → a ≡ b) → unless_refused n done a ≡ unless_refused n done b
-unless-alike zero done a b same = same refl
-unless-alike (suc n) done a b same = refl
+unless-alike : (answer : Result Answer Refusal) (done a b : Outcome) → (answer_number answer ≡ 0 → a ≡ b) → unless_refused answer done a ≡ unless_refused answer done b
+unless-alike (Ok answer) done a b same = same refl
+unless-alike (Err refusal) done a b same = refl
 
 pub slots-opened : (kind : Kind) (period : Period) (bidders : List BidderLine) (ps : List PathLine) → opened_slots kind period bidders (path_slots ps) ≡ opened kind period bidders ps
 unfolding opened_slots opened
@@ -85,5 +88,5 @@ slots-opened kind period bidders ps =
     let calls : List ℕ → Book → Outcome = λ quantities b. and_then (deposits b bidders) (λ after. outcome_of («open» kind period quantities) after empty_register) in
     let slots = quantities_in (length ps) (filled path_limit no_path_line ps) in
     ap (λ (l : List Route). and_then (fresh l (length ps)) (calls slots)) (map-filled route_of path_limit no_path_line ps)
-    ∙ unless-alike (answer_number made.answer) made (calls slots made.book) (calls (quantities_of ps) made.book)
+    ∙ unless-alike made.answer made (calls slots made.book) (calls (quantities_of ps) made.book)
     (λ none. ap (λ (l : List ℕ). calls l made.book) (quantities-filled ps (fresh-few (routes_of ps) (length ps) none)))

@@ -4,11 +4,10 @@ use mathlib.Core.List.{List, [], map}
 use Prim.Native.Nat.{ℕ}
 use native.Mathlib.Omega.{arith}
 use lib.ListN.{length-replicate}
-use Rattle.market.proofs.Tables.{is-taken, none-refused}
-use Rattle.market.specs.Answers.{answer_number, answered, first_of}
+use Rattle.market.proofs.Tables.{none-refused}
+use Rattle.market.specs.Answers.{answer_number, answered, decided, first_of, Verdict, no_refusal}
 use Rattle.market.specs.Fresh.{fresh, fresh_refusals, fresh_book, no_book}
 use Rattle.market.specs.Limits.{register_words}
-use Rattle.market.specs.declared.answer.Outcome.{Outcome}
 use Rattle.market.specs.declared.book.Book.{Book}
 use Rattle.market.specs.declared.book.Route.{Route}
 use Rattle.market.specs.declared.units.Cents.{Cents}
@@ -19,7 +18,7 @@ use Rattle.call_funding.specs.Deposit.{deposit}
 use Rattle.call_rules.proofs.SoundStates.{fresh-state}
 use Rattle.call_rules.proofs.StepLaws.{memory_kept}
 use Rattle.call_rules.specs.Rule.{Lists, lists}
-use Rattle.call_rules.specs.Steps.{no_register, refusal_of, outcome_of, words_after}
+use Rattle.call_rules.specs.Steps.{no_register, verdict_of, outcome_of, words_after}
 use Rattle.call_rules.specs.State.{SoundMemory}
 use Rattle.sheet_form.specs.declared.rows.BidderLine.{BidderLine}
 use Rattle.sheet_calls.specs.Calls.{deposits_of, deposits, empty_register}
@@ -27,7 +26,7 @@ use Rattle.sheet_calls.specs.Calls.{deposits_of, deposits, empty_register}
 deposit-keeps :
     (words : List ℕ) (b : Book) (bidder : ℕ) (to : Funds) (amount : Cents) → SoundMemory b words
     → SoundMemory (outcome_of (deposit bidder to amount) b no_register).book words
-unfolding refusal_of outcome_of words_after deposit
+unfolding verdict_of outcome_of words_after deposit
 deposit-keeps words b bidder to amount state =
     let none : Lists = lists [] [] [] in
     memory_kept (deposit bidder to amount) none (deposit-lawful bidder to amount none) b words state
@@ -40,7 +39,7 @@ pub fresh_keeps : (routes : List Route) (n : ℕ) → answer_number (fresh route
 unfolding fresh
 fresh_keeps routes n taken =
     let refusal = first_of (fresh_refusals routes n) in
-    let none : refusal ≡ 0 = none-refused no_book refusal (answered (fresh_book routes n)) taken in
+    let none : refusal ≡ no_refusal = none-refused no_book refusal (answered (fresh_book routes n)) taken in
     subst (λ (b : Book). SoundMemory b empty_register)
-    (sym (ap (λ (o : Outcome). o.book) (is-taken no_book refusal (answered (fresh_book routes n)) none)))
+    (sym (ap (λ (v : Verdict). (decided no_book v (answered (fresh_book routes n))).book) none))
     (fresh-state routes n empty_register none (omega (arith, length-replicate {A = ℕ} register_words 0)))

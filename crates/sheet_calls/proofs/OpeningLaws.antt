@@ -1,5 +1,7 @@
 -- Laws about the calls up to open: open with the quantities counted, and call by call, as `opened` makes them.
-use mathlib.Core.Path.{◌≡◌, sym, ◌∙◌, ap}
+use mathlib.Core.Path.{◌≡◌, refl, sym, ◌∙◌, ap}
+use mathlib.Core.Bool.{true, false, false≢true}
+use Rattle.std.specs.Prelude.{Result, is_err, Ok, Err}
 use mathlib.Core.List.{List, map}
 use Prim.Native.Nat.{ℕ, ◌*◌, ◌≤◌}
 use native.Mathlib.Omega.{arith}
@@ -8,11 +10,13 @@ use lib.Seq.{length-take-le}
 use Rattle.market.specs.Answers.{answer_number}
 use Rattle.market.specs.Fresh.{fresh}
 use Rattle.market.specs.Limits.{path_limit, quantity_words}
+use Rattle.market.specs.declared.answer.Answer.{Answer}
 use Rattle.market.specs.declared.answer.Outcome.{Outcome}
 use Rattle.market.specs.declared.book.Book.{Book}
 use Rattle.market.specs.declared.book.Kind.{Kind}
 use Rattle.market.specs.declared.book.Period.{Period}
 use Rattle.market.specs.declared.book.Route.{Route}
+use Rattle.market.specs.declared.answer.Refusal.{Refusal}
 use Rattle.call_rules.specs.Steps.{outcome_of}
 use Rattle.call_funding.proofs.DepositLaws.{then-refused, then_next}
 use Rattle.call_funding.specs.Deposits.{and_then}
@@ -34,8 +38,13 @@ module _ (b : Book) (kind : Kind) (period : Period) (paths : PathRows) (words : 
 
 -- ---- Call by call, as `opened` makes them
 
+-- an answer that is no refusal has the number 0
+pub answered-number : (answer : Result Answer Refusal) → is_err answer ≡ false → answer_number answer ≡ 0
+answered-number (Ok answer) none = refl
+answered-number (Err refusal) none = absurd (false≢true (sym none))
+
 module _ (kind : Kind) (period : Period) (bidders : List BidderLine) (paths : PathRows) (routes : List Route) (are : routes ≡ map route_of paths.lines) (made : Outcome)
-    (from-routes : made ≡ fresh routes paths.count) (n : ℕ) (is : n ≡ answer_number made.answer) where
+    (from-routes : made ≡ fresh routes paths.count) where
   abbrev book-made : Outcome
   book-made = fresh (map route_of paths.lines) paths.count
 
@@ -48,23 +57,23 @@ module _ (kind : Kind) (period : Period) (bidders : List BidderLine) (paths : Pa
   abbrev funds : Book → Outcome
   funds b = and_then (deposits b bidders) opens
 
-  pub book-refused : (n ≡ 0 → ⊥) → made ≡ opened_slots kind period bidders paths
+  pub book-refused : is_err made.answer ≡ true → made ≡ opened_slots kind period bidders paths
   unfolding opened_slots
-  book-refused some = then-refused made book-made is_made funds n is some
+  book-refused some = then-refused made book-made is_made funds some
 
-  module _ (none : n ≡ 0) where
+  module _ (none : is_err made.answer ≡ false) where
     pub few-paths : paths.count ≤ path_limit
-    few-paths = fresh-few (map route_of paths.lines) paths.count (sym (is ∙ ap (λ (o : Outcome). answer_number o.answer) is_made) ∙ none)
+    few-paths = fresh-few (map route_of paths.lines) paths.count (sym (ap (λ (o : Outcome). answer_number o.answer) is_made) ∙ answered-number made.answer none)
 
-    module _ (funded : Outcome) (is-funded : funded ≡ deposits made.book bidders) (m : ℕ) (is_m : m ≡ answer_number funded.answer) where
-      pub deposits-refused : (m ≡ 0 → ⊥) → funded ≡ opened_slots kind period bidders paths
+    module _ (funded : Outcome) (is-funded : funded ≡ deposits made.book bidders) where
+      pub deposits-refused : is_err funded.answer ≡ true → funded ≡ opened_slots kind period bidders paths
       unfolding opened_slots
       deposits-refused some =
-          then-refused funded (deposits made.book bidders) is-funded opens m is_m some
-          ∙ then_next made book-made is_made funds n is none
+          then-refused funded (deposits made.book bidders) is-funded opens some
+          ∙ then_next made book-made is_made funds none
 
-      pub deposits-made : m ≡ 0 → opens funded.book ≡ opened_slots kind period bidders paths
+      pub deposits-made : is_err funded.answer ≡ false → opens funded.book ≡ opened_slots kind period bidders paths
       unfolding opened_slots
       deposits-made zeroth =
-          then_next funded (deposits made.book bidders) is-funded opens m is_m zeroth
-          ∙ then_next made book-made is_made funds n is none
+          then_next funded (deposits made.book bidders) is-funded opens zeroth
+          ∙ then_next made book-made is_made funds none

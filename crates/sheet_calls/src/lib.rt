@@ -9,7 +9,7 @@ ghost use Rattle.market.specs.Books.{every};
 ghost use Rattle.market.specs.Limits.{path_limit};
 ghost use Rattle.sheet_calls.specs.CallSlots.{is_listed, open_with, opened_slots};
 
-use market::answer::{Outcome, Refusal};
+use market::answer::Outcome;
 use market::book::{Book, Kind, Period};
 use market::engine::Engine;
 use sheet_form::rows::{BidderLine, BidderRows, PathRows};
@@ -33,13 +33,11 @@ pub fn opened(kind: Kind, period: Period, bidders: BidderRows, paths: PathRows) 
 {
     let lines = paths.lines;
     let made = Engine::fresh(slots::routes(lines), paths.count);
-    let first = made.answer;
-    if first.number() != Refusal::NONE {
+    if made.answer.is_err() {
         return made;
     }
     let funded = deposits::deposits(made.book, bidders);
-    let second = funded.answer;
-    if second.number() != Refusal::NONE {
+    if funded.answer.is_err() {
         return funded;
     }
     open_with(funded.book, kind, period, paths)

@@ -19,7 +19,7 @@ use Rattle.sheet_lines.specs.declared.part.Part.TheVariants.{Bidders, Paths, Bid
 use Rattle.sheet_form.proofs.FormLaws.{title-long}
 use Rattle.sheet_form.proofs.PlaceLaws.{paths-place}
 use Rattle.sheet_form.proofs.RightLaws.{says-count, title-some, few-bidders}
-use Rattle.sheet_form.specs.Form.{SheetForm, well_formed, faulty_at, PlacesAre, form_of, sheet_kind}
+use Rattle.sheet_form.specs.Form.{well_formed, PlacesAre, form_of, sheet_kind}
 use Rattle.sheet_form.specs.Reading.{sheet_in, bidder_line_at, path_line_at, section_says, part_at, after_part, at_bidders, at_rounds}
 use Rattle.sheet_form.specs.Slots.{bidder_rows, path_slots}
 use Rattle.sheet_form.specs.Words.{section_words}

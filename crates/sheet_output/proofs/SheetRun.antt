@@ -2,7 +2,7 @@
 use mathlib.Core.Path.{◌≡◌, refl, sym, ◌∙◌, ap, ap₂}
 use mathlib.Core.Bool.{Bool, true, ◌&&◌}
 use mathlib.Core.List.{List, [], ◌∷◌, ◌++◌, map}
-use Prim.Native.Nat.{ℕ, zero, suc, ◌+◌, ◌≤◌}
+use Prim.Native.Nat.{ℕ, suc, ◌+◌, ◌≤◌}
 use native.Mathlib.Omega.{arith}
 use lib.ListN.{length, get_or, take, drop, length-take, length-drop}
 use lib.Seq.{take-append_seam, length-take-le}
@@ -10,11 +10,15 @@ use Rattle.market.specs.Answers.{answer_number, answered}
 use Rattle.market.specs.Books.{day_number, every}
 use Rattle.market.specs.Fresh.{fresh}
 use Rattle.market.specs.Limits.{bidder_limit}
+use Rattle.market.proofs.Tables.{number-above}
+use Rattle.market.specs.declared.answer.Answer.{Answer}
 use Rattle.market.specs.declared.answer.Outcome.{Outcome}
+use Rattle.std.specs.Prelude.{Result, Ok, Err}
 use Rattle.market.specs.declared.book.Book.{Book}
 use Rattle.market.specs.declared.book.Kind.{Kind}
 use Rattle.market.specs.declared.book.Kind.TheVariants.{Short, Long}
 use Rattle.market.specs.declared.book.Period.{Period}
+use Rattle.market.specs.declared.answer.Refusal.{Refusal}
 use Rattle.text_numbers.specs.Put.{put_at}
 use Rattle.call_funding.proofs.KeptDeposits.{next-keeps}
 use Rattle.call_funding.specs.Deposits.{unless_refused, and_then}
@@ -28,7 +32,7 @@ use Rattle.round_bids.specs.Encoding.{encoded}
 use Rattle.sheet_lines.specs.declared.part.Part.TheVariants.{Bidders, Paths, Bids}
 use Rattle.sheet_form.proofs.WordLaws.{words-few}
 use Rattle.sheet_form.proofs.RightLaws.{first-rises, first-words, second-words, bidders-rise, few-bidders}
-use Rattle.sheet_form.specs.Form.{SheetForm, well_formed, faulty_at, form_of, sheet_kind}
+use Rattle.sheet_form.specs.Form.{well_formed, form_of, sheet_kind}
 use Rattle.sheet_form.specs.Reading.{sheet_in, bidder_line_at, path_line_at, section_says, part_at, after_part, rounds_at, at_bidders, at_paths, at_rounds, days_in}
 use Rattle.sheet_form.specs.Sheet.{rounds_of, right_bidders}
 use Rattle.sheet_form.specs.Words.{section_words}
@@ -62,17 +66,19 @@ module _ (kind : Kind) (period : Period) (bidders : List BidderLine) (paths : Li
       let none : Lists = lists [] [] [] in
       memory_kept («open» kind period (quantities_of paths)) none (open-lawful kind period (quantities_of paths) none) funded.book empty_register state
 
-  opened_with : (n : ℕ) → n ≡ answer_number made.answer → answer_number (unless_refused n made rest).answer ≡ 0 → SoundMemory (unless_refused n made rest).book empty_register
-  opened_with zero is none =
-      let state = deposits-keep made.book empty_register bidders (fresh_keeps (routes_of paths) (length paths) (sym is)) in
-      next-keeps (λ (b : Book). SoundMemory b empty_register) (answer_number funded.answer) funded
+  opened_with :
+      (answer : Result Answer Refusal) → answer ≡ made.answer → answer_number (unless_refused answer made rest).answer ≡ 0
+      → SoundMemory (unless_refused answer made rest).book empty_register
+  opened_with (Ok answer) is none =
+      let state = deposits-keep made.book empty_register bidders (fresh_keeps (routes_of paths) (length paths) (ap answer_number (sym is))) in
+      next-keeps (λ (b : Book). SoundMemory b empty_register) funded.answer funded
       (outcome_of («open» kind period (quantities_of paths)) funded.book empty_register) state
       (open-keeps state)
-  opened_with (suc n) is none = absurd (let bad : ⊥ = omega (arith, is, none) in bad)
+  opened_with (Err refusal) is none = absurd (number-above refusal (ap answer_number is ∙ none))
 
   pub opened-state : answer_number (opened kind period bidders paths).answer ≡ 0 → SoundMemory (opened kind period bidders paths).book empty_register
   unfolding opened
-  opened-state none = opened_with (answer_number made.answer) refl none
+  opened-state none = opened_with made.answer refl none
 
 -- ---- The output after the calls up to open
 

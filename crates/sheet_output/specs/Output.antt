@@ -1,9 +1,11 @@
 -- The output of a sheet, from its bytes, and the buffer that it is written to (rules 14.6 to 14.12, and rule 13.40).
-use Rattle.std.specs.Prelude.{Bool, true, false, List, map, ℕ, leb, length, Ok, Err}
+use Rattle.std.specs.Prelude.{Result, Bool, true, false, List, map, ℕ, leb, length, Ok, Err}
 use Rattle.market.specs.Books.{day_number}
 use Rattle.market.specs.Limits.{award_sheet_bytes}
 use Rattle.market.specs.declared.answer.Outcome.{Outcome}
 use Rattle.market.specs.declared.book.Period.{Period}
+use Rattle.market.specs.Answers.{form_refusal}
+use Rattle.market.specs.declared.answer.Refusal.{Refusal}
 use Rattle.text_numbers.specs.Put.{put_at}
 use Rattle.round_bids.specs.Encoding.{encoded}
 use Rattle.sheet_form.specs.Form.{SheetForm, form_of}
@@ -11,9 +13,6 @@ use Rattle.sheet_form.specs.Reading.{sheet_in}
 use Rattle.sheet_form.specs.Sheet.{Sheet}
 use Rattle.sheet_calls.specs.Calls.{opened}
 use Rattle.sheet_rounds.specs.Rounds.{output_from}
-use Rattle.sheet_output.specs.declared.Reply.{Reply}
-use Rattle.sheet_output.specs.declared.Reply.TheVariants.{Written, Refused}
-use Rattle.market.specs.Answers.{form_refusal}
 use Rattle.award_sheet_parts.specs.AwardSheet.{refused_line}
 
 -- ---- Before the rounds
@@ -46,9 +45,9 @@ abbrev pub has_output_room : List ℕ → Bool
 has_output_room out = leb award_sheet_bytes (length out)
 
 -- rule 14.11: the count of the output's bytes, or 1 for a short buffer, whatever the sheet holds
-abbrev pub answer_if : Bool → List ℕ → Reply
-answer_if true output = Written (length output)
-answer_if false output = Refused 1
+abbrev pub answer_if : Bool → List ℕ → Result ℕ Refusal
+answer_if true output = Ok (length output)
+answer_if false output = Err Refusal.ShortBuffer
 
 -- rule 14.11: the output stands at the front of the buffer, and the bytes after it stay; a short buffer stays as it is
 abbrev pub buffer_if : Bool → List ℕ → List ℕ → List ℕ
@@ -56,7 +55,7 @@ buffer_if true out output = put_at out 0 output
 buffer_if false out output = out
 
 -- the answer, and the buffer after it
-unfoldable pub answer_to : List ℕ → List ℕ → Reply
+unfoldable pub answer_to : List ℕ → List ℕ → Result ℕ Refusal
 answer_to text out = answer_if (has_output_room out) (output_of text)
 
 unfoldable pub buffer_after : List ℕ → List ℕ → List ℕ

@@ -12,24 +12,18 @@ use market::engine::Engine;
 use sheet_form::form;
 use sheet_form::form::FaultyLine;
 
-// The answer: the number of bytes written, or a refusal of the calling program.
-#[derive(Clone, Copy)]
-pub enum Reply {
-    Written(usize),
-    Refused(u32),
-}
-
-// Writes the output of a sheet to the front of the buffer lent: the award sheet, or the one line that takes its place.
-pub fn output(bytes: &[u8], out: &mut [u8]) -> Reply
+// Writes the output of a sheet to the front of the buffer lent: the award sheet, or the one line that takes its place. Returns the
+// number of bytes written, or a refusal of the calling program.
+pub fn output(bytes: &[u8], out: &mut [u8]) -> Result<usize, Refusal>
     ensures answer { result ≡ answer_to bytes.now out.old }
     ensures buffer { out.new ≡ buffer_after bytes.now out.old }
 {
     if out.len() < Engine::AWARD_SHEET_BYTES {
-        return Reply::Refused(Refusal::SHORT_BUFFER);
+        return Err(Refusal::ShortBuffer);
     }
     let count = match form::form_of(bytes) {
         Ok(found) => sheet::run(bytes, found, out),
         Err(FaultyLine(line)) => refusals::faulty(out, line),
     };
-    Reply::Written(count)
+    Ok(count)
 }

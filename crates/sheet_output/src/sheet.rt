@@ -16,7 +16,6 @@ ghost use Rattle.sheet_rounds.specs.Rounds.{output_from};
 ghost use Rattle.sheet_output.specs.Output.{sheet_output};
 
 use award_sheet::refusals;
-use market::answer::Refusal;
 use market::book::{Book, Kind};
 use market::engine::Engine;
 use sheet_form::form;
@@ -72,10 +71,8 @@ pub fn run(bytes: &[u8], found: Found, out: &mut [u8]) -> usize
     let paths = sheet_reading::paths_of(bytes, found.paths);
     let kind = form::kind_in(bytes);
     let start = sheet_calls::opened(kind, sheet_reading::period_in(bytes), bidders, paths);
-    let answer = start.answer;
-    let number = answer.number();
-    if number != Refusal::NONE {
-        return refusals::refused(out, number);
+    if let Err(refusal) = start.answer {
+        return refusals::refused(out, refusal.number());
     }
     let count = bidders.count;
     let lines = bidders.lines;

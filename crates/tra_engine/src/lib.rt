@@ -11,7 +11,9 @@ use journal_step::{Journal, LINE_BYTES, REPLY_ROOM, WORD_ROOM};
 use library_book::BOOK_WORDS;
 use market::answer::Refusal;
 use market::engine::Engine;
-use sheet_output::Reply;
+
+// What is returned where the work was done; no refusal has this number.
+const DONE: u32 = 0;
 
 // The engine's release.
 #[unsafe(no_mangle)]
@@ -37,13 +39,12 @@ pub extern "C" fn tra_sheet(sheet: &[u8], out: &mut [u8], used: &mut usize) -> u
     ensures buffer { out.new ≡ buffer_after sheet.now out.old }
     ensures count { used.new ≡ rules.reply_count (answer_to sheet.now out.old) used.old }
 {
-    let reply = sheet_output::output(sheet, out);
-    match reply {
-        Reply::Written(count) => {
+    match sheet_output::output(sheet, out) {
+        Ok(count) => {
             *used = count;
-            Refusal::NONE
+            DONE
         }
-        Reply::Refused(number) => number,
+        Err(refusal) => refusal.number(),
     }
 }
 
@@ -95,10 +96,10 @@ pub extern "C" fn tra_line(
         (kept.taken line.now)).journal }
 {
     if short(book, register, room, out) {
-        return Refusal::SHORT_BUFFER;
+        return Refusal::ShortBuffer.number();
     }
     if !library_book::valid::encodes_book(book) {
-        return Refusal::UNSOUND;
+        return Refusal::Unsound.number();
     }
     let balance = *account;
     let held = library_book::decode::book_in(book, balance);
@@ -113,5 +114,5 @@ pub extern "C" fn tra_line(
         out,
         used,
     );
-    Refusal::NONE
+    DONE
 }

@@ -7,13 +7,14 @@ use mathlib.Core.List.{List}
 use Prim.Native.Nat.{ℕ}
 use native.Mathlib.Omega.{arith}
 use lib.ListN.{take}
+use borrow.Author.Rules.{rules}
 use Rattle.market.specs.Answers.{answered, refused}
 use Rattle.market.specs.Limits.{bidder_limit}
+use Rattle.market.specs.declared.answer.Refusal.{Refusal}
 use Rattle.call_funding.specs.Deposits.{list_deposits}
 use Rattle.call_funding.specs.declared.BidderDeposits.{BidderDeposits}
 use Rattle.call_funding.proofs.DepositLaws.{as_long, take-listed}
 use Rattle.call_funding.proofs.KeptDeposits.{list-asked}
-use borrow.Author.Rules.{rules}
 use Rattle.call_funding.proofs.deposit_all.Goals.{After-none_asked, After-slots_listed-count, Start}
 use Rattle.call_funding.proofs.deposit_all.Goals as goal
 
@@ -33,13 +34,13 @@ module _ (p : After-slots_listed-count) where
 -- what is left of them on a book that is not sound, by whether none asks
 unsound :
     (c : After-none_asked) (t : Bool) → c.none_asked.result ≡ t
-    → cond t (answered (start c.before.before.before).args.book) (refused (start c.before.before.before).args.book 2)
+    → cond t (answered (start c.before.before.before).args.book) (refused (start c.before.before.before).args.book Refusal.Unsound)
     ≡ list_deposits (start c.before.before.before).args.book (take (start c.before.before.before).args.list.count (all c.before.before.before))
 unsound c t is =
     let p = c.before.before.before in
     let b = (start p).args.book in
     let bad = sym c.sound_book.ensures ∙ c.if-sound_book.false in
-    ap (λ (s : Bool). cond s (answered b) (refused b 2)) (sym is ∙ c.none_asked.ensures)
+    ap (λ (s : Bool). cond s (answered b) (refused b Refusal.Unsound)) (sym is ∙ c.none_asked.ensures)
     ∙ sym (list-asked b bad (take p.slots_listed-count.result (all p)))
     ∙ ap (list_deposits b) (listed p)
 

@@ -1,5 +1,5 @@
--- On a sound book the own rows decide (own-decide). By cases on their number: any but 0 is the rule's refusal
--- (refuses), 0 its answer (takes). Where no row holds, withdraw-cleared gives what the callees require: the bidder's
+-- On a sound book the own rows decide (own-decide). By cases on their verdict: a refusal is the rule's refusal
+-- (refuses), none its answer (takes). Where no row holds, withdraw-cleared gives what the callees require: the bidder's
 -- number is within the limit, and the amount may be withdrawn.
 use mathlib.Core.Path.{◌≡◌, sym, ◌∙◌, ap}
 use Prim.Native.Nat.{◌≤◌, ◌<◌}
@@ -9,31 +9,31 @@ use Rattle.market.specs.Books.{bidder_of, with_bidder}
 use Rattle.market.specs.Limits.{bidder_limit}
 use Rattle.market.specs.declared.book.Bidder.{Bidder}
 use Rattle.call_rules.proofs.Decides.{refuses, takes, own-decide}
-use Rattle.call_rules.specs.Steps.{no_register, refusal_of}
+use Rattle.call_rules.specs.Steps.{no_register, verdict_of}
 use Rattle.call_funding.proofs.Cleared.{withdraw-cleared}
 use Rattle.call_funding.specs.Withdraw.{withdrawable, debited, withdraw_refusals, withdraw}
-use Rattle.call_funding.proofs.withdraw_sound.Goals.{After-withdraw_refusal-number, Else-number-ne-NONE}
+use Rattle.call_funding.proofs.withdraw_sound.Goals.{After-check_withdrawal, In_default}
 use Rattle.call_funding.proofs.withdraw_sound.Goals as goal
 
--- the number that was worked out is that of the whole table
-number :
-    (p : After-withdraw_refusal-number)
-    → p.withdraw_refusal-number.result ≡ refusal_of (withdraw p.args.bidder p.args.from p.args.amount) p.args.book no_register
-unfolding refusal_of withdraw
-number p =
+-- the verdict that was worked out is that of the whole table
+verdict :
+    (p : After-check_withdrawal)
+    → p.check_withdrawal.result ≡ verdict_of (withdraw p.args.bidder p.args.from p.args.amount) p.args.book no_register
+unfolding verdict_of withdraw
+verdict p =
     let a = p.args in
-    p.withdraw_refusal-number.ensures ∙ sym (own-decide a.book (withdraw_refusals a.book a.bidder a.from a.amount) p.requires)
+    p.check_withdrawal.ensures ∙ sym (own-decide a.book (withdraw_refusals a.book a.bidder a.from a.amount) p.requires)
 
-pub returns-then-number-ne-NONE : goal.returns-then-number-ne-NONE
-returns-then-number-ne-NONE c =
+pub returns-in-Err : goal.returns-in-Err
+returns-in-Err c =
     let a = c.args in
-    refuses (withdraw a.bidder a.from a.amount) a.book no_register _ (number c.before) c.if-number-ne-NONE.true
+    refuses (withdraw a.bidder a.from a.amount) a.book no_register _ (verdict c.before) c.in-Err.is
 
 -- where there is no refusal
-clear : (p : Else-number-ne-NONE) → (p.args.bidder < bidder_limit) × (p.args.amount.0 ≤ withdrawable (bidder_of p.args.book p.args.bidder) p.args.from)
+clear : (p : In_default) → (p.args.bidder < bidder_limit) × (p.args.amount.0 ≤ withdrawable (bidder_of p.args.book p.args.bidder) p.args.from)
 clear p =
     withdraw-cleared p.args.book p.args.bidder p.args.from p.args.amount
-    (sym p.withdraw_refusal-number.ensures ∙ p.if-number-ne-NONE.false)
+    (sym p.check_withdrawal.ensures ∙ p.in_default.is)
 
 pub debited_bidder-next-requires : goal.debited_bidder-next-requires
 debited_bidder-next-requires c = rw c.bidder.ensures (record { bidder_bounds = bidder-within c.args.book c.args.bidder c.requires; amount_bound = (clear c.before).1 })
@@ -45,7 +45,7 @@ returns c =
     let a = c.args in
     let next = c.debited_bidder-next.ensures ∙ ap (λ (x : Bidder). debited x a.from a.amount) c.bidder.ensures in
     ap answered (c.with_bidder.ensures ∙ ap (with_bidder a.book a.bidder) next)
-    ∙ takes (withdraw a.bidder a.from a.amount) a.book no_register _ (number p.before) p.if-number-ne-NONE.false
+    ∙ takes (withdraw a.bidder a.from a.amount) a.book no_register _ (verdict p.before) p.in_default.is
 
 pub bidder-requires : goal.bidder-requires
 bidder-requires c = (clear c).0

@@ -1,5 +1,5 @@
--- By cases on the refusal's number: any but 0 is the rule's refusal and leaves the words (refuses, words-stay), 0 its
--- answer with the entries issued (takes, words-change). Where no row holds, pay-cleared gives what the callees require.
+-- By cases on the verdict: a refusal is the rule's and leaves the words (refuses, words-stay); none gives its answer, with
+-- the entries issued (takes, words-change). Where no row holds, pay-cleared gives what the callees require.
 use mathlib.Core.Path.{sym, ◌∙◌, ap}
 use Rattle.market.specs.Answers.{answered}
 use Rattle.call_rules.proofs.Decides.{refuses, words-stay, takes, words-change}
@@ -7,31 +7,31 @@ use Rattle.call_pay.proofs.Cleared.{pay-cleared}
 use Rattle.call_pay.specs.Pay.{pay}
 use Rattle.call_pay.proofs.pay.Goals as goal
 
-pub returns-then-number-ne-NONE : goal.returns-then-number-ne-NONE
-returns-then-number-ne-NONE c =
+pub returns-in-Err : goal.returns-in-Err
+returns-in-Err c =
     let a = c.args in
-    let is = c.refusal-number.ensures in record {
-      outcome = refuses (pay a.bidder a.amount) a.book a.words.now _ is c.if-number-ne-NONE.true;
-      words = words-stay (pay a.bidder a.amount) a.book a.words.now _ is c.if-number-ne-NONE.true;
+    let is = c.check.ensures in record {
+      outcome = refuses (pay a.bidder a.amount) a.book a.words.now _ is c.in-Err.is;
+      words = words-stay (pay a.bidder a.amount) a.book a.words.now _ is c.in-Err.is;
     }
 
 pub returns : goal.returns
 unfolding pay
 returns c =
     let a = c.args in
-    let is = c.refusal-number.ensures in record {
-      outcome = ap answered c.book_paid.ensures ∙ takes (pay a.bidder a.amount) a.book a.words.now _ is c.if-number-ne-NONE.false;
-      words = c.issue.ensures ∙ words-change (pay a.bidder a.amount) a.book a.words.now _ is c.if-number-ne-NONE.false;
+    let is = c.check.ensures in record {
+      outcome = ap answered c.book_paid.ensures ∙ takes (pay a.bidder a.amount) a.book a.words.now _ is c.in_default.is;
+      words = c.issue.ensures ∙ words-change (pay a.bidder a.amount) a.book a.words.now _ is c.in_default.is;
     }
 
 pub issue-requires : goal.issue-requires
 issue-requires c =
-    let clear = pay-cleared c.args.book c.args.words.now c.args.bidder c.args.amount (sym c.refusal-number.ensures ∙ c.if-number-ne-NONE.false) in
+    let clear = pay-cleared c.args.book c.args.words.now c.args.bidder c.args.amount (sym c.check.ensures ∙ c.in_default.is) in
     clear.0.room
 
 pub book_paid-requires : goal.book_paid-requires
 book_paid-requires c =
-    let clear = pay-cleared c.args.book c.args.words.now c.args.bidder c.args.amount (sym c.refusal-number.ensures ∙ c.if-number-ne-NONE.false) in record {
+    let clear = pay-cleared c.args.book c.args.words.now c.args.bidder c.args.amount (sym c.check.ensures ∙ c.in_default.is) in record {
       book_value = clear.0.sound;
       bidder_lt_bidder_limit = clear.1;
     }

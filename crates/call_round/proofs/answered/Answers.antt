@@ -1,7 +1,12 @@
 -- The tables of the awards are the rule's, since the marks are the rule's padded with 0 and padding changes no award
 -- (`awards-are`). With that put in, each callee's result is the rule's part, and `RoundBounds` gives the bounds on MW
 -- and prices that the callees require.
+use Rattle.std.specs.Prelude.{Ok}
 use Rattle.market.specs.declared.answer.Outcome.{Outcome}
+use Rattle.market.specs.Books.{every, in_cents, in_megawatts, with_front}
+use Rattle.market.specs.Sound.{sound_book, period_of, sound_quantity}
+use Rattle.market.specs.declared.answer.Answer.TheVariants.{Bids}
+use Rattle.market.specs.declared.book.Book.{Book}
 use Rattle.call_round.specs.declared.worked.Worked.{Worked}
 use native.Mathlib.Omega.{arith}
 use mathlib.Core.Path.{◌≡◌, ◌∙◌, ap, ap₂}
@@ -9,10 +14,6 @@ use mathlib.Core.Bool.{true}
 use mathlib.Core.List.{List}
 use Prim.Native.Nat.{ℕ, ◌+◌}
 use lib.ListN.{length}
-use Rattle.market.specs.Books.{every, in_cents, in_megawatts, with_front}
-use Rattle.market.specs.Sound.{sound_book, period_of, sound_quantity}
-use Rattle.market.specs.declared.answer.Answer.TheVariants.{Bids}
-use Rattle.market.specs.declared.book.Book.{Book}
 use Rattle.round_bids.specs.Bids.{Bid, bids_of}
 use Rattle.round_bids.specs.Encoding.{right_bids}
 use Rattle.round_awards.specs.Tables.{won_table, sold_table, price_table}
@@ -30,7 +31,7 @@ use Rattle.call_round.proofs.answered.Goals as goal
 
 -- the outcome of an answered round
 abbrev made : ℕ → Book → Outcome
-made n after = record { answer = Bids n; book = after }
+made n after = record { answer = Ok (Bids n); book = after }
 
 -- what is known at the start
 module _

@@ -5,7 +5,7 @@ use mathlib.Core.List.{List}
 use Prim.Native.Nat.{ℕ}
 use Rattle.market.specs.declared.answer.Outcome.{Outcome}
 use Rattle.call_rules.specs.Rule.{lists}
-use Rattle.call_rules.specs.Steps.{refusal_of, outcome_of, words_after, list_after, ScratchAfter, leaving}
+use Rattle.call_rules.specs.Steps.{verdict_of, outcome_of, words_after, list_after, ScratchAfter, leaving}
 use Rattle.call_funding.specs.Deposit.{deposit}
 use Rattle.call_funding.specs.Withdraw.{withdraw}
 use Rattle.call_open.specs.Open.{«open»}
@@ -26,15 +26,15 @@ left-same :
 left-same outcome register first second third = λ i. leaving (outcome i) (register i) (lists (first i) (second i) (third i))
 
 pub returns-in-Deposit : goal.returns-in-Deposit
-unfolding outcome_of refusal_of words_after list_after ScratchAfter deposit
+unfolding outcome_of verdict_of words_after list_after ScratchAfter deposit
 returns-in-Deposit c = rw c.in-Deposit.is (record { by-rule = left-same c.deposit.ensures refl refl refl refl; scratch-left = refl })
 
 pub returns-in-Withdraw : goal.returns-in-Withdraw
-unfolding outcome_of refusal_of words_after list_after ScratchAfter withdraw
+unfolding outcome_of verdict_of words_after list_after ScratchAfter withdraw
 returns-in-Withdraw c = rw c.in-Withdraw.is (record { by-rule = left-same c.withdraw.ensures refl refl refl refl; scratch-left = refl })
 
 pub returns-in-Open : goal.returns-in-Open
-unfolding outcome_of refusal_of words_after list_after ScratchAfter «open»
+unfolding outcome_of verdict_of words_after list_after ScratchAfter «open»
 returns-in-Open c = rw c.in-Open.is (record { by-rule = left-same c.«open».ensures refl refl refl refl; scratch-left = refl })
 
 pub returns-in-Round : goal.returns-in-Round
@@ -45,41 +45,41 @@ returns-in-Round c =
     (record { by-rule = left-same done.outcome done.register refl done.bids done.paths; scratch-left = done.scratch })
 
 pub returns-in-Pay : goal.returns-in-Pay
-unfolding outcome_of refusal_of words_after list_after ScratchAfter pay
+unfolding outcome_of verdict_of words_after list_after ScratchAfter pay
 returns-in-Pay c =
     let done = c.pay.ensures in
     rw c.in-Pay.is (record { by-rule = left-same done.outcome done.words refl refl refl; scratch-left = refl })
 
 pub returns-in-Default : goal.returns-in-Default
-unfolding outcome_of refusal_of words_after list_after ScratchAfter default
+unfolding outcome_of verdict_of words_after list_after ScratchAfter default
 returns-in-Default c =
     let done = c.default.ensures in
     rw c.in-Default.is (record { by-rule = left-same done.outcome done.words refl refl refl; scratch-left = refl })
 
 pub returns-in-Retire : goal.returns-in-Retire
-unfolding outcome_of refusal_of words_after list_after ScratchAfter retire
+unfolding outcome_of verdict_of words_after list_after ScratchAfter retire
 returns-in-Retire c =
     let done = c.retire.ensures in
     rw c.in-Retire.is (record { by-rule = left-same done.outcome done.words refl refl refl; scratch-left = refl })
 
 pub returns-in-Rent : goal.returns-in-Rent
-unfolding outcome_of refusal_of words_after list_after ScratchAfter rent
+unfolding outcome_of verdict_of words_after list_after ScratchAfter rent
 returns-in-Rent c = rw c.in-Rent.is (record { by-rule = left-same c.rent.ensures refl refl refl refl; scratch-left = refl })
 
 pub returns-in-Payout : goal.returns-in-Payout
-unfolding outcome_of refusal_of words_after list_after ScratchAfter payout
+unfolding outcome_of verdict_of words_after list_after ScratchAfter payout
 returns-in-Payout c =
     let done = c.payout.ensures in
     rw c.in-Payout.is (record { by-rule = left-same done.outcome refl done.amounts refl refl; scratch-left = refl })
 
 pub returns-in-Disburse : goal.returns-in-Disburse
-unfolding outcome_of refusal_of words_after list_after ScratchAfter settle
+unfolding outcome_of verdict_of words_after list_after ScratchAfter settle
 returns-in-Disburse c =
     let done = c.disburse.ensures in
     rw c.in-Disburse.is (record { by-rule = left-same done.outcome refl done.shares refl refl; scratch-left = refl })
 
 pub returns-in-Recover : goal.returns-in-Recover
-unfolding outcome_of refusal_of words_after list_after ScratchAfter settle
+unfolding outcome_of verdict_of words_after list_after ScratchAfter settle
 returns-in-Recover c =
     let done = c.recover.ensures in
     rw c.in-Recover.is (record { by-rule = left-same done.outcome refl done.shares refl refl; scratch-left = refl })

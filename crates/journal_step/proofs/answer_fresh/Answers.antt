@@ -3,15 +3,14 @@
 -- no list (fresh-none).
 use borrow.Author.Rules.{rules}
 use native.Mathlib.Omega.{arith}
+use Rattle.market.specs.declared.answer.Outcome.{Outcome}
+use Rattle.market.specs.Answers.{bids_in}
 use Rattle.journal_fresh_line.specs.FreshLines.{fresh_said}
 use mathlib.Core.Path.{◌≡◌, sym, ◌∙◌, ap}
 use mathlib.Core.List.{[]}
 use lib.ListN.{length}
 use borrow.Author.Tests.{not-true, not-false}
-use Rattle.market.specs.Answers.{answer_number}
-use Rattle.market.specs.declared.answer.Outcome.{Outcome}
 use Rattle.text_numbers.specs.Put.{put_at}
-use Rattle.market.specs.Answers.{bids_in}
 use Rattle.text_writing.proofs.PutLaws.{put_front}
 use Rattle.journal_step.specs.LineStep.{Stepped, fresh_by, fresh_step, turned_away}
 use Rattle.journal_step.proofs.LineLaws.{fresh-none, fresh-away, fresh-made, fresh_kept, fresh-taken}
@@ -41,8 +40,8 @@ put_reply-used-requires c =
       paths_le_path_limit = (search rules, search rules);
     }
 
-pub returns-then-number-ne-NONE : goal.returns-then-number-ne-NONE
-returns-then-number-ne-NONE c =
+pub returns-then-is_err : goal.returns-then-is_err
+returns-then-is_err c =
     let a = c.args in
     let said = c.fresh_said-said in
     let made = c.fresh-outcome in
@@ -51,7 +50,7 @@ returns-then-number-ne-NONE c =
     ap (fresh_by a.journal []) made.ensures
     ∙ sym (fresh-made a.journal [] said.result (not-false said.result.present c.if-not-said.false))
     ∙ ap (fresh_step a.journal []) said.ensures in record {
-      journal = sym (fresh_kept a.journal (answer_number made.result.answer) made.result.book (λ z. c.if-number-ne-NONE.true (c.number.ensures ∙ z))) ∙ ap (λ (x : Stepped). x.journal) s;
+      journal = sym (fresh_kept a.journal made.result.answer made.result.book (sym c.is_err.ensures.value ∙ c.if-is_err.true)) ∙ ap (λ (x : Stepped). x.journal) s;
       used = put_front put.ensures ∙ ap (λ (x : Stepped). length x.text) s;
       bytes = put.ensures.bytes ∙ ap (λ (x : Stepped). put_at a.out.now 0 x.text) s;
     }
@@ -66,7 +65,7 @@ returns c =
     ap (fresh_by a.journal []) made.ensures
     ∙ sym (fresh-made a.journal [] said.result (not-false said.result.present c.if-not-said.false))
     ∙ ap (fresh_step a.journal []) said.ensures in record {
-      journal = sym (fresh-taken a.journal (answer_number made.result.answer) made.result.book (omega (arith, c.number.ensures))) ∙ ap (λ (x : Stepped). x.journal) s;
+      journal = sym (fresh-taken a.journal made.result.answer made.result.book (sym c.is_err.ensures.value ∙ c.if-is_err.false)) ∙ ap (λ (x : Stepped). x.journal) s;
       used = put_front put.ensures ∙ ap (λ (x : Stepped). length x.text) s;
       bytes = put.ensures.bytes ∙ ap (λ (x : Stepped). put_at a.out.now 0 x.text) s;
     }

@@ -1,28 +1,28 @@
 -- By cases on the refusals: a refused fresh book (`book-refused`) or refused deposits (`deposits-refused`) are the
 -- answer; else open follows (`deposits-made`). That `fresh` answered gives the few paths that open requires.
-use mathlib.Core.Path.{◌∙◌}
+use mathlib.Core.Path.{sym, ◌∙◌}
 use lib.ListN.{take}
 use Rattle.sheet_calls.proofs.OpeningLaws.{book-refused, few-paths, deposits-refused, deposits-made}
 use Rattle.sheet_calls.proofs.opened.Goals as goal
 
-pub returns-then-number-ne-NONE : goal.returns-then-number-ne-NONE
-returns-then-number-ne-NONE c =
+pub returns-then-is_err : goal.returns-then-is_err
+returns-then-is_err c =
     let a = c.args in
     let made = c.fresh-made in
     let routes = c.routes in
     let bidders = take a.bidders.count a.bidders.lines in
     book-refused a.kind a.period bidders a.paths routes.result routes.ensures made.result made.ensures
-    c.number.result c.number.ensures c.if-number-ne-NONE.true
+    (sym c.is_err.ensures.value ∙ c.if-is_err.true)
 
-pub returns-then-number-ne-NONE-2 : goal.returns-then-number-ne-NONE-2
-returns-then-number-ne-NONE-2 c =
+pub returns-then-is_err-2 : goal.returns-then-is_err-2
+returns-then-is_err-2 c =
     let a = c.args in
     let made = c.fresh-made in
     let routes = c.routes in
     let bidders = take a.bidders.count a.bidders.lines in
     deposits-refused a.kind a.period bidders a.paths routes.result routes.ensures made.result made.ensures
-    c.number.result c.number.ensures c.if-number-ne-NONE.false
-    c.deposits-funded.result c.deposits-funded.ensures c.number-2.result c.number-2.ensures c.if-number-ne-NONE-2.true
+    (sym c.is_err.ensures.value ∙ c.if-is_err.false)
+    c.deposits-funded.result c.deposits-funded.ensures (sym c.is_err-2.ensures.value ∙ c.if-is_err-2.true)
 
 pub open_with-requires : goal.open_with-requires
 open_with-requires c =
@@ -31,7 +31,7 @@ open_with-requires c =
     let routes = c.routes in
     let bidders = take a.bidders.count a.bidders.lines in
     few-paths a.kind a.period bidders a.paths routes.result routes.ensures made.result made.ensures
-    c.number.result c.number.ensures c.if-number-ne-NONE.false
+    (sym c.is_err.ensures.value ∙ c.if-is_err.false)
 
 pub returns : goal.returns
 returns c =
@@ -41,8 +41,8 @@ returns c =
     let bidders = take a.bidders.count a.bidders.lines in
     c.open_with.ensures
     ∙ deposits-made a.kind a.period bidders a.paths routes.result routes.ensures made.result made.ensures
-    c.number.result c.number.ensures c.if-number-ne-NONE.false
-    c.deposits-funded.result c.deposits-funded.ensures c.number-2.result c.number-2.ensures c.if-number-ne-NONE-2.false
+    (sym c.is_err.ensures.value ∙ c.if-is_err.false)
+    c.deposits-funded.result c.deposits-funded.ensures (sym c.is_err-2.ensures.value ∙ c.if-is_err-2.false)
 
 pub deposits-funded-requires : goal.deposits-funded-requires
 deposits-funded-requires c = c.requires

@@ -2,17 +2,18 @@
 -- all that `put_one` requires, that the sheet fits the buffer above all, and that the sheet is the output.
 use mathlib.Core.Path.{sym, ◌∙◌, ap}
 use native.Mathlib.Omega.{arith}
+use Rattle.market.proofs.Tables.{number-above}
 use Rattle.market.specs.Answers.{answer_number}
 use Rattle.market.specs.declared.answer.Outcome.{Outcome}
 use Rattle.text_numbers.proofs.PutLaws.{put_is}
 use Rattle.sheet_rounds.proofs.RoundDone.{one-refused, one-done}
 use Rattle.sheet_rounds.proofs.short_output.Goals as goal
 
-pub returns-then-number-ne-NONE : goal.returns-then-number-ne-NONE
-returns-then-number-ne-NONE c =
+pub returns-in-Err : goal.returns-in-Err
+returns-in-Err c =
     let a = c.args in
-    let is = c.number-number.ensures ∙ ap (λ (o : Outcome). answer_number o.answer) c.round_of-outcome.ensures.outcome in
-    put_is (one-refused a.book a.bids.now a.listed.now is c.if-number-ne-NONE.true) c.refused.ensures
+    let is = c.number.ensures ∙ ap answer_number (sym c.in-Err.is) ∙ ap (λ (o : Outcome). answer_number o.answer) c.round_of-outcome.ensures.outcome in
+    put_is (one-refused a.book a.bids.now a.listed.now is (λ none. number-above c.in-Err.refusal (sym c.number.ensures ∙ none))) c.refused.ensures
 
 -- the round was answered
 pub put_one-requires : goal.put_one-requires
@@ -22,7 +23,7 @@ put_one-requires c =
     let e = c.round_of-outcome.ensures in
     let d =
     one-done a.book a.bids.now a.listed.now p.sound_memory p.listed_len_bound p.listed_value e.outcome e.bids e.paths
-    (sym c.number-number.ensures ∙ c.if-number-ne-NONE.false) in
+    (ap answer_number c.in_default.is) in
     record {
       answered = d.lists;
       path_count_bound = d.paths;
@@ -37,5 +38,5 @@ returns c =
     let e = c.round_of-outcome.ensures in
     let d =
     one-done a.book a.bids.now a.listed.now p.sound_memory p.listed_len_bound p.listed_value e.outcome e.bids e.paths
-    (sym c.number-number.ensures ∙ c.if-number-ne-NONE.false) in
+    (ap answer_number c.in_default.is) in
     put_is d.output c.put_one.ensures

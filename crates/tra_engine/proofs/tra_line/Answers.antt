@@ -21,7 +21,7 @@ returns-then-short c =
     let m = in_memory a.book.now a.account.now a.register.now a.room.now a.out.now a.used.now in
     let is = line-short m a.line.now (sym c.short.ensures ∙ c.if-short.true) in
     record {
-      number = ap (λ (x : Returned). x.number) is;
+      number = c.number.ensures ∙ ap (λ (x : Returned). x.number) is;
       memory = ap (λ (x : Returned). x.memory) is;
       state = λ e. absurd (let never : ⊥ = omega (arith, e) in never);
     }
@@ -39,7 +39,7 @@ returns-then-not-encodes_book c =
     let fails = sym stood.ensures ∙ c.if-not-encodes_book.true in
     let is = line-unsound m a.line.now (sym c.short.ensures ∙ c.if-short.false) fails in
     record {
-      number = ap (λ (x : Returned). x.number) is;
+      number = c.number-then-not-encodes_book.ensures ∙ ap (λ (x : Returned). x.number) is;
       memory = ap (λ (x : Returned). x.memory) is;
       state = λ e. absurd (let never : ⊥ = omega (arith, e) in never);
     }

@@ -7,11 +7,11 @@ use Rattle.call_funding.proofs.DepositLaws.{cash-refused, cash-made}
 use Rattle.call_funding.proofs.KeptDeposits.{Sound, deposit-if-keeps, deposit-stays-sound}
 use Rattle.call_funding.proofs.deposits.deposit_both.Goals as goal
 
-pub returns-then-number-ne-NONE : goal.returns-then-number-ne-NONE
-returns-then-number-ne-NONE c =
+pub returns-then-is_err : goal.returns-then-is_err
+returns-then-is_err c =
     let a = c.args in
     let cash = c.deposit_if-cash in
-    cash-refused a.book a.of cash.result cash.ensures c.number.result c.number.ensures c.if-number-ne-NONE.true
+    cash-refused a.book a.of cash.result cash.ensures (sym c.is_err.ensures.value ∙ c.if-is_err.true)
 
 pub deposit_if-requires : goal.deposit_if-requires
 deposit_if-requires c =
@@ -26,7 +26,7 @@ returns c =
     let a = p.args in
     let cash = p.deposit_if-cash in
     c.deposit_if.ensures
-    ∙ cash-made a.book a.of cash.result cash.ensures p.number.result p.number.ensures c.if-number-ne-NONE.false
+    ∙ cash-made a.book a.of cash.result cash.ensures (sym p.is_err.ensures.value ∙ c.if-is_err.false)
 
 pub deposit_if-cash-requires : goal.deposit_if-cash-requires
 deposit_if-cash-requires c = c.requires

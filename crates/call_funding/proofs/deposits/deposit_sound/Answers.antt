@@ -1,5 +1,5 @@
--- On a sound book the own rows decide (own-decide). By cases on their number: any but 0 is the rule's refusal
--- (refuses), 0 its answer (takes). Where no row holds, deposit-cleared gives what the callees require: the bidder's
+-- On a sound book the own rows decide (own-decide). By cases on their verdict: a refusal is the rule's refusal
+-- (refuses), none its answer (takes). Where no row holds, deposit-cleared gives what the callees require: the bidder's
 -- number is within the limit, and there is room for the amount.
 use mathlib.Core.Path.{◌≡◌, sym, ◌∙◌, ap}
 use mathlib.Core.Bool.{true}
@@ -9,31 +9,31 @@ use Rattle.market.specs.Books.{bidder_of, with_bidder}
 use Rattle.market.specs.Limits.{bidder_limit}
 use Rattle.market.specs.declared.book.Bidder.{Bidder}
 use Rattle.call_rules.proofs.Decides.{refuses, takes, own-decide}
-use Rattle.call_rules.specs.Steps.{no_register, refusal_of}
+use Rattle.call_rules.specs.Steps.{no_register, verdict_of}
 use Rattle.call_funding.proofs.Cleared.{deposit-cleared}
 use Rattle.call_funding.specs.Deposit.{has_room, with_deposit, deposit_refusals, deposit}
-use Rattle.call_funding.proofs.deposits.deposit_sound.Goals.{After-deposit_refusal-number, Else-number-ne-NONE}
+use Rattle.call_funding.proofs.deposits.deposit_sound.Goals.{After-check_deposit, In_default}
 use Rattle.call_funding.proofs.deposits.deposit_sound.Goals as goal
 
--- the number that was worked out is that of the whole table
-number :
-    (p : After-deposit_refusal-number)
-    → p.deposit_refusal-number.result ≡ refusal_of (deposit p.args.bidder p.args.to p.args.amount) p.args.book no_register
-unfolding refusal_of deposit
-number p =
+-- the verdict that was worked out is that of the whole table
+verdict :
+    (p : After-check_deposit)
+    → p.check_deposit.result ≡ verdict_of (deposit p.args.bidder p.args.to p.args.amount) p.args.book no_register
+unfolding verdict_of deposit
+verdict p =
     let a = p.args in
-    p.deposit_refusal-number.ensures ∙ sym (own-decide a.book (deposit_refusals a.book a.bidder a.to a.amount) p.requires)
+    p.check_deposit.ensures ∙ sym (own-decide a.book (deposit_refusals a.book a.bidder a.to a.amount) p.requires)
 
-pub returns-then-number-ne-NONE : goal.returns-then-number-ne-NONE
-returns-then-number-ne-NONE c =
+pub returns-in-Err : goal.returns-in-Err
+returns-in-Err c =
     let a = c.args in
-    refuses (deposit a.bidder a.to a.amount) a.book no_register _ (number c.before) c.if-number-ne-NONE.true
+    refuses (deposit a.bidder a.to a.amount) a.book no_register _ (verdict c.before) c.in-Err.is
 
 -- where there is no refusal
-clear : (p : Else-number-ne-NONE) → (p.args.bidder < bidder_limit) × (has_room (bidder_of p.args.book p.args.bidder) p.args.to p.args.amount ≡ true)
+clear : (p : In_default) → (p.args.bidder < bidder_limit) × (has_room (bidder_of p.args.book p.args.bidder) p.args.to p.args.amount ≡ true)
 clear p =
     deposit-cleared p.args.book p.args.bidder p.args.to p.args.amount
-    (sym p.deposit_refusal-number.ensures ∙ p.if-number-ne-NONE.false)
+    (sym p.check_deposit.ensures ∙ p.in_default.is)
 
 pub credited_bidder-next-requires : goal.credited_bidder-next-requires
 credited_bidder-next-requires c = rw c.bidder.ensures (clear c.before).1
@@ -45,7 +45,7 @@ returns c =
     let a = c.args in
     let next = c.credited_bidder-next.ensures ∙ ap (λ (x : Bidder). with_deposit x a.to a.amount) c.bidder.ensures in
     ap answered (c.with_bidder.ensures ∙ ap (with_bidder a.book a.bidder) next)
-    ∙ takes (deposit a.bidder a.to a.amount) a.book no_register _ (number p.before) p.if-number-ne-NONE.false
+    ∙ takes (deposit a.bidder a.to a.amount) a.book no_register _ (verdict p.before) p.in_default.is
 
 pub bidder-requires : goal.bidder-requires
 bidder-requires c = (clear c).0

@@ -11,10 +11,10 @@ use Rattle.market.specs.Books.{cents, in_cents, credit}
 use Rattle.market.specs.Limits.{bidder_limit, path_limit, zone_price_limit, account_limit}
 use Rattle.market.specs.declared.book.Entry.{Entry}
 use Rattle.market.specs.declared.units.Cents.{Cents}
+use Rattle.market.specs.declared.book.Book.{Book}
 use Rattle.register.proofs.EntryLaws.{EntryBounds}
 use Rattle.register.specs.Words.{entry_at, entries_of}
 use Rattle.register.specs.Refusals.{LentRegister}
-use Rattle.market.specs.declared.book.Book.{Book}
 use Rattle.pool_sharing.specs.Sharing.{total}
 use Rattle.call_payout.proofs.EarningLaws.{credited-more, credit-total}
 use Rattle.call_payout.proofs.RateLaws.{earned_by, bounds, rate-low, credits-same, sum_fits, amount-fits}

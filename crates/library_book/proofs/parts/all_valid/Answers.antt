@@ -12,4 +12,7 @@ loop-i-preserved g c =
     let to = c.loop-i in
     let here = c.valid-here in
     let room : a.from + (to.i + 1) * p.WORDS ≤ length a.words.now = omega (arith, mul-le-mul_right {m = to.i + 1} {n = a.count} p.WORDS (omega arith)) in
-    (omega arith, stand-next p.words_of p.WORDS g.met.P.Part.sized a.words.now a.from (λ i. p.read_at a.words.now (a.from + i * p.WORDS)) to.i to.valid here.result room to.invariant.1 (rw c.WORDS.ensures at here.ensures))
+    let next =
+    stand-next p.words_of p.WORDS g.met.P.Part.sized a.words.now a.from (λ i. p.read_at a.words.now (a.from + i * p.WORDS)) to.i to.valid here.result
+    room to.invariant.1 (rw c.WORDS.ensures at here.ensures) in
+    (omega arith, next)

@@ -2,13 +2,14 @@
 -- (`run_long`); these laws say what the output is, from what was read. Where open was answered its book is sound
 -- (`run-state`), as the rounds require.
 use borrow.Author.Rules.{rules}
-use mathlib.Core.Path.{◌≡◌, sym, ◌∙◌}
+use mathlib.Core.Path.{ap, ◌≡◌, sym, ◌∙◌}
 use native.Mathlib.Omega.{arith}
 use lib.ListN.{length}
+use Rattle.market.proofs.Tables.{number-above}
+use Rattle.market.specs.Answers.{answer_number}
 use Rattle.text_numbers.proofs.PutLaws.{put_is}
 use Rattle.sheet_form.proofs.SheetLaws.{form-is-short}
-use Rattle.sheet_output.proofs.RunLaws.{paths-inside, bidders-inside, count-few, days-inside, Read, rows_few, all-rows, run-refused}
-use Rattle.sheet_output.proofs.RunLaws.{Opened, run-state, listed-all, listed-few, run_short, run_long}
+use Rattle.sheet_output.proofs.RunLaws.{paths-inside, bidders-inside, count-few, days-inside, Read, rows_few, all-rows, run-refused, Opened, run-state, listed-all, listed-few, run_short, run_long}
 use Rattle.sheet_output.proofs.SheetRun.{counted-front}
 use Rattle.sheet_output.proofs.sheet.run.Goals as goal
 
@@ -45,8 +46,8 @@ opened-start-requires c =
     } in
     all-rows read
 
-pub returns-then-number-ne-NONE : goal.returns-then-number-ne-NONE
-returns-then-number-ne-NONE c =
+pub returns-in-Err : goal.returns-in-Err
+returns-in-Err c =
     let a = c.args in
     let p = c.requires in
     let rows = c.bidders_of-bidders in
@@ -62,7 +63,8 @@ returns-then-number-ne-NONE c =
       kind-is = kind.ensures;
       days-are = days.ensures;
     } in
-    put_is (run-refused read c.opened-start.ensures c.number-number.ensures c.if-number-ne-NONE.true) c.refused.ensures
+    put_is (run-refused read c.opened-start.ensures (c.number.ensures ∙ ap answer_number (sym c.in-Err.is))
+    (λ none. number-above c.in-Err.refusal (sym c.number.ensures ∙ none))) c.refused.ensures
 
 pub numbers-numbers-requires : goal.numbers-numbers-requires
 numbers-numbers-requires c =
@@ -144,7 +146,7 @@ run_short-requires c =
     record {
       read = read;
       opens = c.opened-start.ensures;
-      none = sym c.number-number.ensures ∙ c.if-number-ne-NONE.false;
+      none = ap answer_number c.in_default.is;
       numbers-are = c.numbers-numbers.ensures;
     } in
     record {
@@ -177,7 +179,7 @@ run_long-requires c =
     record {
       read = read;
       opens = c.opened-start.ensures;
-      none = sym c.number-number.ensures ∙ c.if-number-ne-NONE.false;
+      none = ap answer_number c.in_default.is;
       numbers-are = c.numbers-numbers.ensures;
     } in
     record {
@@ -210,7 +212,7 @@ returns-in-Short c =
     record {
       read = read;
       opens = c.opened-start.ensures;
-      none = sym c.number-number.ensures ∙ c.if-number-ne-NONE.false;
+      none = ap answer_number c.in_default.is;
       numbers-are = c.numbers-numbers.ensures;
     } in
     put_is (run_short opened c.in-Short.is) c.run_short.ensures
@@ -236,7 +238,7 @@ returns-in-Long c =
     record {
       read = read;
       opens = c.opened-start.ensures;
-      none = sym c.number-number.ensures ∙ c.if-number-ne-NONE.false;
+      none = ap answer_number c.in_default.is;
       numbers-are = c.numbers-numbers.ensures;
     } in
     put_is (run_long opened c.in-Long.is) c.run_long.ensures
