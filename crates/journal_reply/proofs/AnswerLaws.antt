@@ -10,8 +10,6 @@ use Rattle.market.specs.Limits.{bid_answer_size, path_answer_size}
 use Rattle.market.specs.declared.answer.Answer.{Answer}
 use Rattle.market.specs.declared.answer.Answer.TheVariants.{Done, Drawn, Bids}
 use Rattle.market.specs.declared.units.Cents.{Cents}
-use Rattle.market.specs.Answers.{refusal_number}
-use Rattle.market.specs.declared.answer.Refusal.{Refusal}
 use Rattle.text_fields.specs.Fields.{newline}
 use Rattle.journal_rows.specs.Rows.{row, last_row, rows}
 use Rattle.journal_reply.specs.Replies.{path_rows_text, round_reply, done_text, reply_text}
@@ -46,20 +44,20 @@ round-pieces bids answers paths results =
     ∙ append_assoc counted answered (path_rows_text paths results ++ (newline ∷ []))
 
 -- what a call answers, by the answer that was matched in it
-pub told-is : {answer : Result Answer Refusal} {given other : Answer} → answer ≡ Ok given → given ≡ other → answer ≡ Ok other
+pub told-is : {answer : Result Answer ℕ} {given other : Answer} → answer ≡ Ok given → given ≡ other → answer ≡ Ok other
 told-is is same = is ∙ ap (λ (x : Answer). the-answer x) same
   where
-    the-answer : Answer → Result Answer Refusal
+    the-answer : Answer → Result Answer ℕ
     the-answer x = Ok x
 
 -- the reply by the answer of its call, as one piece with nothing after it
-module _ {answer : Result Answer Refusal} (told : Told) (list answers : List ℕ) (paths : ℕ) (results : List ℕ) where
-  reply-as : {other : Result Answer Refusal} → answer ≡ other → reply_text answer told list answers paths results ≡ reply_text other told list answers paths results ++ []
+module _ {answer : Result Answer ℕ} (told : Told) (list answers : List ℕ) (paths : ℕ) (results : List ℕ) where
+  reply-as : {other : Result Answer ℕ} → answer ≡ other → reply_text answer told list answers paths results ≡ reply_text other told list answers paths results ++ []
   reply-as {other} is =
-      ap (λ (x : Result Answer Refusal). reply_text x told list answers paths results) is
+      ap (λ (x : Result Answer ℕ). reply_text x told list answers paths results) is
       ∙ sym (append-nil (reply_text other told list answers paths results))
 
-  pub reply-refused : {r : Refusal} → answer ≡ Err r → reply_text answer told list answers paths results ≡ last_row words.refused_mark (refusal_number r ∷ []) ++ []
+  pub reply-refused : {n : ℕ} → answer ≡ Err n → reply_text answer told list answers paths results ≡ last_row words.refused_mark (n ∷ []) ++ []
   unfolding reply_text
   reply-refused is = reply-as is
 

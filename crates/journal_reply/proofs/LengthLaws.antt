@@ -4,11 +4,10 @@ use Prim.Native.Nat.{ℕ, zero, suc, ◌+◌, ◌*◌, ◌≤◌}
 use native.Mathlib.Omega.{arith}
 use Rattle.std.specs.Prelude.{Result, Ok, Err}
 use lib.ListN.{length, take, drop, length-append, length-take}
-use Rattle.market.specs.Answers.{bids_in, refusal_number}
+use Rattle.market.specs.Answers.{bids_in}
 use Rattle.market.specs.Limits.{bidder_limit, bid_limit, bid_answer_size, path_limit, path_answer_size}
 use Rattle.market.specs.declared.answer.Answer.{Answer}
 use Rattle.market.specs.declared.answer.Answer.TheVariants.{Done, Drawn, Bids}
-use Rattle.market.specs.declared.answer.Refusal.{Refusal}
 use Rattle.text_fields.specs.Fields.{newline}
 use Rattle.journal_rows.specs.Rows.{row, rows}
 use Rattle.journal_rows.proofs.RowLaws.{row-most, last-row-most, rows-most}
@@ -54,10 +53,10 @@ done-most Listed list few = omega (arith, last-row-most words.ok_mark list)
 -- the reply to any call fits
 pub reply-fits :
     (answer :
-    Result Answer Refusal) (told : Told) (list answers : List ℕ) (paths : ℕ) (results : List ℕ) → length list ≤ bidder_limit → bids_in answer ≤ bid_limit → paths ≤ path_limit
+    Result Answer ℕ) (told : Told) (list answers : List ℕ) (paths : ℕ) (results : List ℕ) → length list ≤ bidder_limit → bids_in answer ≤ bid_limit → paths ≤ path_limit
     → length (reply_text answer told list answers paths results) ≤ reply_room
 unfolding reply_text
-reply-fits (Err r) told list answers paths results few bids within = omega (arith, last-row-most words.refused_mark (refusal_number r ∷ []))
+reply-fits (Err n) told list answers paths results few bids within = omega (arith, last-row-most words.refused_mark (n ∷ []))
 reply-fits (Ok Done) told list answers paths results few bids within = done-most told list few
 reply-fits (Ok (Drawn d)) told list answers paths results few bids within = omega (arith, last-row-most words.ok_mark (d.0 ∷ []))
 reply-fits (Ok (Bids n)) told list answers paths results few bids within = omega (arith, round-most n answers paths results)

@@ -3,8 +3,6 @@ use Rattle.std.specs.Prelude.{Result, Ok, Err, List, [], ◌∷◌, ◌++◌, �
 use Rattle.market.specs.Limits.{bid_answer_size, path_answer_size}
 use Rattle.market.specs.declared.answer.Answer.{Answer}
 use Rattle.market.specs.declared.answer.Answer.TheVariants.{Done, Drawn, Bids}
-use Rattle.market.specs.Answers.{refusal_number}
-use Rattle.market.specs.declared.answer.Refusal.{Refusal}
 use Rattle.text_fields.specs.Fields.{newline}
 use Rattle.journal_rows.specs.Rows.{row, last_row, rows}
 use Rattle.journal_reply.specs.Words as words
@@ -30,9 +28,10 @@ abbrev pub done_text : Told → List ℕ → List ℕ
 done_text Nothing list = last_row words.ok_mark []
 done_text Listed list = last_row words.ok_mark list
 
--- rule 15.7: the reply to a call; `list` is the list that it tells, if any, and `answers` and `results` are those of a round
-unfoldable pub reply_text : Result Answer Refusal → Told → List ℕ → List ℕ → ℕ → List ℕ → List ℕ
-reply_text (Err refusal) told list answers paths results = last_row words.refused_mark (refusal_number refusal ∷ [])
+-- rule 15.7: the reply to a call, of which a refused one gives its number; `list` is the list that it tells, if any, and `answers` and
+-- `results` are those of a round
+unfoldable pub reply_text : Result Answer ℕ → Told → List ℕ → List ℕ → ℕ → List ℕ → List ℕ
+reply_text (Err number) told list answers paths results = last_row words.refused_mark (number ∷ [])
 reply_text (Ok Done) told list answers paths results = done_text told list
 reply_text (Ok (Drawn d)) told list answers paths results = last_row words.ok_mark (d.0 ∷ [])
 reply_text (Ok (Bids n)) told list answers paths results = round_reply n answers paths results

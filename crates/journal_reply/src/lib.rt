@@ -7,7 +7,7 @@ ghost use Rattle.market.specs.Limits.{bidder_limit, bid_limit, bid_answer_size, 
 ghost use Rattle.text_numbers.specs.Put.{Put};
 ghost use Rattle.journal_reply.specs.Replies.{reply_room, path_rows_text, round_reply, done_text, reply_text};
 
-use market::answer::{Answer, Refusal};
+use market::answer::Answer;
 use market::engine::Engine;
 
 // What an answered call tells besides its number: nothing, or a list.
@@ -69,10 +69,10 @@ fn put_done(out: &mut [u8], told: Told, list: &[u64]) -> usize
     }
 }
 
-// The reply to a call, at the front of the buffer; returns the place after it.
+// The reply to a call that answered this, or was refused with a number, at the front of the buffer; returns the place after it.
 pub fn put_reply(
     out: &mut [u8],
-    answer: Result<Answer, Refusal>,
+    answer: Result<Answer, u32>,
     told: Told,
     list: &[u64],
     answers: &[u64],
@@ -86,8 +86,8 @@ pub fn put_reply(
     ensures { Put out.old 0 (reply_text answer told list.now answers.now paths results.now) out.new result }
 {
     match answer {
-        Err(refusal) => {
-            let row = [refusal.number() as u64];
+        Err(number) => {
+            let row = [number as u64];
             journal_rows::put_last_row(out, 0, b"= refused", &row)
         }
         Ok(answered) => match answered {

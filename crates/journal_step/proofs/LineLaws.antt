@@ -7,8 +7,9 @@ use Prim.Native.Nat.{ℕ}
 use lib.IntN.{ℤ}
 use Rattle.std.specs.Prelude.{Result, is_err, Ok, Err}
 use Rattle.market.specs.declared.answer.Answer.{Answer}
+use Rattle.market.specs.declared.answer.Answer.TheVariants.{Done, Drawn, Bids}
 use lib.ListN.{length, drop, replicate}
-use Rattle.market.specs.Answers.{bids_in, first_of, decided, answered, Verdict}
+use Rattle.market.specs.Answers.{bids_in, first_of, decided, answered, numbered, Verdict}
 use Rattle.market.specs.Fresh.{fresh_refusals, fresh_book, no_book, fresh}
 use Rattle.market.specs.Limits.{bidder_limit, bid_answer_words, path_answer_words, scratch_words}
 use Rattle.market.specs.declared.book.Book.{Book}
@@ -48,6 +49,13 @@ left-same b register call list prices t e =
     (replicate path_answer_words 0) (replicate (cond x scratch_words 0) 0)))
     (sym e)
 
+-- a refusal's number tells of no bids either
+pub bids-numbered : (answer : Result Answer Refusal) → bids_in (numbered answer) ≡ bids_in answer
+bids-numbered (Ok Done) = refl
+bids-numbered (Ok (Drawn draw)) = refl
+bids-numbered (Ok (Bids bids)) = refl
+bids-numbered (Err refusal) = refl
+
 -- a fresh book tells of no bids
 decided-none : (v : Verdict) (b : Book) → bids_in (decided no_book v (answered b)).answer ≡ 0
 decided-none (Ok done) b = refl
@@ -76,25 +84,29 @@ fresh-taken j (Ok answer) b h = refl
 fresh-taken j (Err refusal) b h = absurd (false≢true (sym h))
 
 -- the reply to a call, by what it tells
-module _ (o : Outcome) (amounts answers results : List ℕ) (count : ℕ) (e : count ≡ length (paths_of o.book)) (tell : Tell) where
-  told : (t : Tell) → tell ≡ t → text_by t o amounts answers results ≡ text_by tell o amounts answers results
-  told t is = ap (λ (x : Tell). text_by x o amounts answers results) (sym is)
+module _
+    (o : Outcome) (amounts answers results : List ℕ) (count : ℕ) (e : count ≡ length (paths_of o.book)) (tell : Tell) (said : Result Answer ℕ) (s : said ≡ numbered o.answer)
+  where
+    told : (t : Tell) → tell ≡ t → text_by t o amounts answers results ≡ text_by tell o amounts answers results
+    told t is = ap (λ (x : Tell). text_by x o amounts answers results) (sym is)
 
-  counted : (how : Told) (list : List ℕ) → reply_text o.answer how list answers count results ≡ reply_text o.answer how list answers (length (paths_of o.book)) results
-  counted how list = ap (λ (n : ℕ). reply_text o.answer how list answers n results) e
+    counted : (how : Told) (list : List ℕ) → reply_text said how list answers count results ≡ reply_text (numbered o.answer) how list answers (length (paths_of o.book)) results
+    counted how list =
+        ap (λ (n : ℕ). reply_text said how list answers n results) e
+        ∙ ap (λ (a : Result Answer ℕ). reply_text a how list answers (length (paths_of o.book)) results) s
 
-  -- the first arm is that of its two cases without a list
-  pub text-bare : (tell ≡ tells.Nothing) ⊎ (tell ≡ tells.Awards) → reply_text o.answer Nothing [] answers count results ≡ text_by tell o amounts answers results
-  text-bare one = counted Nothing [] ∙ ⊎_elim (told tells.Nothing) (told tells.Awards) one
+    -- the first arm is that of its two cases without a list
+    pub text-bare : (tell ≡ tells.Nothing) ⊎ (tell ≡ tells.Awards) → reply_text said Nothing [] answers count results ≡ text_by tell o amounts answers results
+    text-bare one = counted Nothing [] ∙ ⊎_elim (told tells.Nothing) (told tells.Awards) one
 
-  pub text-offers : tell ≡ tells.Offers → (list : List ℕ) → list ≡ offers_of o.book → reply_text o.answer Listed list answers count results ≡ text_by tell o amounts answers results
-  text-offers is list l =
-      ap (λ (x : List ℕ). reply_text o.answer Listed x answers count results) l
-      ∙ counted Listed (offers_of o.book)
-      ∙ told tells.Offers is
+    pub text-offers : tell ≡ tells.Offers → (list : List ℕ) → list ≡ offers_of o.book → reply_text said Listed list answers count results ≡ text_by tell o amounts answers results
+    text-offers is list l =
+        ap (λ (x : List ℕ). reply_text said Listed x answers count results) l
+        ∙ counted Listed (offers_of o.book)
+        ∙ told tells.Offers is
 
-  pub text-amounts : tell ≡ tells.Amounts → reply_text o.answer Listed amounts answers count results ≡ text_by tell o amounts answers results
-  text-amounts is = counted Listed amounts ∙ told tells.Amounts is
+    pub text-amounts : tell ≡ tells.Amounts → reply_text said Listed amounts answers count results ≡ text_by tell o amounts answers results
+    text-amounts is = counted Listed amounts ∙ told tells.Amounts is
 
 -- the reply to a call is made of what the call left
 pub call-text :

@@ -1,5 +1,6 @@
 -- One line of a journal, the reply to it, and the state after it (rules 15.1 to 15.7, and rule 13.40). The calls are the engine's own, by `step`.
 use Rattle.std.specs.Prelude.{Result, Bool, true, false, cond, List, [], ◌∷◌, map, ℕ, ◌*◌, ltb, ℤ, length, take, drop, replicate, Option, Some, None, Ok, Err}
+use Rattle.market.specs.Answers.{numbered, form_refusal}
 use Rattle.market.specs.Books.{paths_of, offer_of}
 use Rattle.market.specs.Fresh.{fresh}
 use Rattle.market.specs.Limits.{bidder_limit, bid_answer_words, path_answer_words, path_limit, scratch_words, zones}
@@ -95,10 +96,10 @@ offers_of b = map offer_of (paths_of b)
 
 -- rule 15.7: the reply to a call, by what it tells
 abbrev pub text_by : Tell → Outcome → List ℕ → List ℕ → List ℕ → List ℕ
-text_by tells.Nothing o amounts answers results = reply_text o.answer Nothing [] answers (length (paths_of o.book)) results
-text_by tells.Offers o amounts answers results = reply_text o.answer Listed (offers_of o.book) answers (length (paths_of o.book)) results
-text_by tells.Awards o amounts answers results = reply_text o.answer Nothing [] answers (length (paths_of o.book)) results
-text_by tells.Amounts o amounts answers results = reply_text o.answer Listed amounts answers (length (paths_of o.book)) results
+text_by tells.Nothing o amounts answers results = reply_text (numbered o.answer) Nothing [] answers (length (paths_of o.book)) results
+text_by tells.Offers o amounts answers results = reply_text (numbered o.answer) Listed (offers_of o.book) answers (length (paths_of o.book)) results
+text_by tells.Awards o amounts answers results = reply_text (numbered o.answer) Nothing [] answers (length (paths_of o.book)) results
+text_by tells.Amounts o amounts answers results = reply_text (numbered o.answer) Listed amounts answers (length (paths_of o.book)) results
 
 abbrev pub call_text : Call → Left → List ℕ
 call_text call left = text_by (tell_by call) left.outcome left.lists.amounts left.lists.answers left.lists.results
@@ -113,7 +114,7 @@ pub record Stepped : Type 0 where
 
 -- rules 13.40 and 15.4: `= refused 40`
 abbrev pub malformed_reply : List ℕ
-malformed_reply = reply_text (Err Refusal.Form) Nothing [] [] 0 []
+malformed_reply = reply_text (Err form_refusal) Nothing [] [] 0 []
 
 -- rule 15.4: such a line changes nothing
 abbrev pub turned_away : Journal → List ℕ → Stepped
@@ -144,7 +145,7 @@ fresh_by j register o =
     record {
       journal = fresh_state j o.answer o.book;
       register = register;
-      text = reply_text o.answer Nothing [] [] 0 [];
+      text = reply_text (numbered o.answer) Nothing [] [] 0 [];
     }
 
 -- rules 15.4 and 15.5: the line of a fresh book, which is refused with 40 if it has another form

@@ -9,7 +9,7 @@ ghost use Rattle.journal_step.specs.LineStep as rules;
 
 use engine::calls::Call;
 use journal_reply::Told;
-use market::answer::Outcome;
+use market::answer::{Outcome, numbered};
 use market::book::Path;
 use market::engine::Engine;
 
@@ -78,7 +78,7 @@ pub fn put_answer(
     requires answer_bound { (bids_in outcome.answer ≤ bid_limit) × (bids_in outcome.answer * bid_answer_size ≤ length answers.now) }
     ensures { Put out.old 0 (rules.text_by tell outcome amounts.now answers.now results.now) out.new result }
 {
-    let answer = outcome.answer;
+    let answer = numbered(outcome.answer);
     let book = outcome.book;
     let slots_of_paths = book.paths;
     let offers = offers_of(slots_of_paths, book.path_count);

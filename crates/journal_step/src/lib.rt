@@ -18,7 +18,7 @@ ghost use Rattle.journal_step.specs.LineStep as rules;
 use answers::Tell;
 use engine::calls::Call;
 use journal_reply::Told;
-use market::answer::{Outcome, Refusal};
+use market::answer::{Outcome, Refusal, numbered};
 use market::book::Book;
 use market::engine::Engine;
 
@@ -203,7 +203,7 @@ fn turn_away(journal: Journal, out: &mut [u8]) -> Replied
     let empty = &none[..0];
     let used = journal_reply::put_reply(
         out,
-        Err(Refusal::Form),
+        Err(Refusal::Form.number()),
         Told::Nothing,
         empty,
         empty,
@@ -227,7 +227,8 @@ fn answer_fresh(journal: Journal, text: &[u8], out: &mut [u8]) -> Replied
     let outcome = Engine::fresh(said.routes, said.count);
     let none = [0u64; 1];
     let empty = &none[..0];
-    let used = journal_reply::put_reply(out, outcome.answer, Told::Nothing, empty, empty, 0, empty);
+    let answer = numbered(outcome.answer);
+    let used = journal_reply::put_reply(out, answer, Told::Nothing, empty, empty, 0, empty);
     if outcome.answer.is_err() {
         return Replied { journal, used };
     }

@@ -13,6 +13,10 @@ use market::engine::Engine;
 
 pub const FRONT_WORDS: usize = 7;
 
-pub const BIDDERS_FROM: usize = FRONT_WORDS + Engine::PATHS * Path::WORDS;
+pub const PATH_WORDS: usize = Path::WORDS;
 
-pub const BOOK_WORDS: usize = BIDDERS_FROM + Engine::BIDDERS * Bidder::WORDS;
+pub const BIDDER_WORDS: usize = Bidder::WORDS;
+
+pub const BIDDERS_FROM: usize = FRONT_WORDS + Engine::PATHS * PATH_WORDS;
+
+pub const BOOK_WORDS: usize = BIDDERS_FROM + Engine::BIDDERS * BIDDER_WORDS;

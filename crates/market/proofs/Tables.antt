@@ -5,8 +5,9 @@ use mathlib.Core.List.{List, [], ◌∷◌, ◌++◌}
 use native.Mathlib.Omega.{arith}
 use lib.Dec.{ltb}
 use borrow.Author.Tests.{ltb-true}
-use Rattle.std.specs.Prelude.{Ok, Err, is_err}
-use Rattle.market.specs.Answers.{Row, Verdict, no_refusal, first_of, answer_number, refusal_number, decided, refused}
+use Rattle.std.specs.Prelude.{Result, Ok, Err, is_err, ℕ}
+use Rattle.market.specs.Answers.{Row, Verdict, no_refusal, first_of, answer_number, numbered, refusal_number, decided, refused}
+use Rattle.market.specs.declared.answer.Answer.{Answer}
 use Rattle.market.specs.declared.answer.Outcome.{Outcome}
 use Rattle.market.specs.declared.answer.Refusal.{Refusal}
 use Rattle.market.specs.declared.book.Book.{Book}
@@ -38,6 +39,25 @@ pub number-above : (r : Refusal) → refusal_number r ≡ 0 → ⊥
 number-above r is =
     let above = ltb-true 0 (refusal_number r) (positive r) in
     absurd (let no : ⊥ = omega (arith, is, above) in no)
+
+-- what a call tells has its number: none where it is answered, and one above 0 where it is refused
+abbrev number_in : Result Answer ℕ → ℕ
+number_in (Ok answer) = 0
+number_in (Err number) = number
+
+number-told : (answer : Result Answer Refusal) → number_in (numbered answer) ≡ answer_number answer
+number-told (Ok answer) = refl
+number-told (Err refusal) = refl
+
+pub told-number : (answer : Result Answer Refusal) {n : ℕ} → numbered answer ≡ Err n → n ≡ answer_number answer
+told-number answer is = sym (ap number_in is) ∙ number-told answer
+
+pub told-none : (answer : Result Answer Refusal) {done : Answer} → numbered answer ≡ Ok done → answer_number answer ≡ 0
+told-none answer is = sym (number-told answer) ∙ ap number_in is
+
+pub told-above : (answer : Result Answer Refusal) {n : ℕ} → numbered answer ≡ Err n → n ≡ 0 → ⊥
+told-above (Ok answer) is none = false≢true (ap is_err is)
+told-above (Err refusal) is none = number-above refusal (sym (told-number (Err refusal) is) ∙ none)
 
 -- a refusal is not the verdict that nothing refuses
 pub err-not-none : (r : Refusal) → ◌≡◌ {A = Verdict} (Err r) no_refusal → ⊥

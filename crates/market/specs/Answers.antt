@@ -55,6 +55,11 @@ abbrev pub answer_number : Result Answer Refusal → ℕ
 answer_number (Ok answer) = 0
 answer_number (Err refusal) = refusal_number refusal
 
+-- rule 13.100: what a call tells: its answer, or the number that it gives
+abbrev pub numbered : Result Answer Refusal → Result Answer ℕ
+numbered (Ok answer) = Ok answer
+numbered (Err refusal) = Err (refusal_number refusal)
+
 -- rules 7.16 and 8.6: what else an answer carries: how many bids a round had, or the draw of a default
 abbrev pub answer_values : Result Answer Refusal → List ℕ
 answer_values (Ok Done) = []
@@ -62,8 +67,8 @@ answer_values (Ok (Drawn draw)) = draw.0 ∷ []
 answer_values (Ok (Bids bids)) = bids ∷ []
 answer_values (Err refusal) = []
 
--- how many bids an answer tells of, which is 0 but for a round's
-abbrev pub bids_in : Result Answer Refusal → ℕ
+-- how many bids an answer tells of, which is 0 but for a round's; a refusal tells of none, said as itself or by its number
+abbrev pub bids_in : {R : Type 0} → Result Answer R → ℕ
 bids_in (Ok Done) = 0
 bids_in (Ok (Drawn draw)) = 0
 bids_in (Ok (Bids bids)) = bids

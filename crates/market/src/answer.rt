@@ -1,6 +1,6 @@
 // Refusals and answers.
 ghost use Rattle.std.specs.Prelude.{◌≡◌};
-ghost use Rattle.market.specs.Answers.{answer_number, refusal_number};
+ghost use Rattle.market.specs.Answers.{answer_number, numbered, refusal_number};
 
 use crate::book::Book;
 use crate::units::Cents;
@@ -52,6 +52,16 @@ pub enum Answer {
     Bids(usize),
 }
 
+// What a call tells outside the engine: its answer, or the number of its refusal.
+pub fn numbered(answer: Result<Answer, Refusal>) -> Result<Answer, u32>
+    ensures { result ≡ numbered answer }
+{
+    match answer {
+        Ok(answered) => Ok(answered),
+        Err(refusal) => Err(refusal.number()),
+    }
+}
+
 // A call's answer or its refusal, and the book after it.
 #[derive(Clone, Copy, Debug, PartialEq, Eq)]
 pub struct Outcome {
@@ -64,9 +74,9 @@ impl Outcome {
     pub fn number(self) -> u32
         ensures { result ≡ answer_number self.answer }
     {
-        match self.answer {
+        match numbered(self.answer) {
             Ok(_) => 0,
-            Err(refusal) => refusal.number(),
+            Err(number) => number,
         }
     }
 }

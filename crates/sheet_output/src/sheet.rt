@@ -16,6 +16,7 @@ ghost use Rattle.sheet_rounds.specs.Rounds.{output_from};
 ghost use Rattle.sheet_output.specs.Output.{sheet_output};
 
 use award_sheet::refusals;
+use market::answer::numbered;
 use market::book::{Book, Kind};
 use market::engine::Engine;
 use sheet_form::form;
@@ -71,8 +72,8 @@ pub fn run(bytes: &[u8], found: Found, out: &mut [u8]) -> usize
     let paths = sheet_reading::paths_of(bytes, found.paths);
     let kind = form::kind_in(bytes);
     let start = sheet_calls::opened(kind, sheet_reading::period_in(bytes), bidders, paths);
-    if let Err(refusal) = start.answer {
-        return refusals::refused(out, refusal.number());
+    if let Err(number) = numbered(start.answer) {
+        return refusals::refused(out, number);
     }
     let count = bidders.count;
     let lines = bidders.lines;

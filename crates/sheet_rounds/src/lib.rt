@@ -14,7 +14,7 @@ ghost use Rattle.award_sheet_parts.specs.AwardSheet.{is_bidder};
 ghost use Rattle.sheet_rounds.specs.Rounds.{scratch_lent, output_from};
 
 use award_sheet::refusals;
-use market::answer::Outcome;
+use market::answer::{Outcome, numbered};
 use market::book::Book;
 use market::engine::Engine;
 
@@ -52,8 +52,8 @@ pub fn short_output(book: Book, bids: &[u32], listed: &[u32], out: &mut [u8]) ->
     let mut answers = [0u64; Engine::BID_ANSWER_WORDS];
     let mut results = [0u64; Engine::PATH_ANSWER_WORDS];
     let outcome = round_of(book, &mut words, bids, &mut answers, &mut results);
-    if let Err(refusal) = outcome.answer {
-        return refusals::refused(out, refusal.number());
+    if let Err(number) = numbered(outcome.answer) {
+        return refusals::refused(out, number);
     }
     award_sheet::put_one(out, outcome.book, listed, bids, &answers, &results)
 }
@@ -70,8 +70,8 @@ pub fn long_output(book: Book, bids: &[u32], later: &[u32], listed: &[u32], out:
     let mut answers = [0u64; Engine::BID_ANSWER_WORDS];
     let mut results = [0u64; Engine::PATH_ANSWER_WORDS];
     let first = round_of(book, &mut words, bids, &mut answers, &mut results);
-    if let Err(refusal) = first.answer {
-        return refusals::refused(out, refusal.number());
+    if let Err(number) = numbered(first.answer) {
+        return refusals::refused(out, number);
     }
     let mut later_answers = [0u64; Engine::BID_ANSWER_WORDS];
     let mut later_results = [0u64; Engine::PATH_ANSWER_WORDS];
@@ -82,8 +82,8 @@ pub fn long_output(book: Book, bids: &[u32], later: &[u32], listed: &[u32], out:
         &mut later_answers,
         &mut later_results,
     );
-    if let Err(refusal) = second.answer {
-        return refusals::refused(out, refusal.number());
+    if let Err(number) = numbered(second.answer) {
+        return refusals::refused(out, number);
     }
     award_sheet::put_two(
         out,

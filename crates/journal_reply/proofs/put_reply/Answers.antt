@@ -1,15 +1,14 @@
 -- By cases on the answer: each arm writes one piece that is the whole reply (reply-refused, reply-done, reply-drawn,
 -- reply-round). The limits on the bids, the paths and the list make every reply fit the buffer (reply-fits).
 use native.Mathlib.Omega.{arith}
-use mathlib.Core.Path.{refl, sym, ◌∙◌, ap}
-use mathlib.Core.List.{List, [], ◌∷◌, ◌++◌}
+use mathlib.Core.Path.{refl}
+use mathlib.Core.List.{List, [], ◌∷◌}
 use Prim.Native.Nat.{ℕ, ◌≤◌}
 use Rattle.std.specs.Prelude.{Result}
 use lib.ListN.{length}
 use Rattle.market.specs.Answers.{bids_in}
 use Rattle.market.specs.Limits.{bidder_limit, bid_limit, path_limit}
 use Rattle.market.specs.declared.answer.Answer.{Answer}
-use Rattle.market.specs.declared.answer.Refusal.{Refusal}
 use Rattle.journal_reply.specs.declared.Told.{Told}
 use Rattle.journal_rows.specs.Rows.{last_row}
 use Rattle.text_writing.proofs.PutLaws.{WrittenTo, written_none, written-fits, written_on, written-done}
@@ -21,7 +20,7 @@ use Rattle.journal_reply.proofs.put_reply.Goals as goal
 
 -- at the start nothing of the reply is written, and it fits
 begun :
-    (out : List ℕ) (answer : Result Answer Refusal) (told : Told) (list answers : List ℕ) (paths : ℕ) (results : List ℕ)
+    (out : List ℕ) (answer : Result Answer ℕ) (told : Told) (list answers : List ℕ) (paths : ℕ) (results : List ℕ)
     → reply_room ≤ length out → length list ≤ bidder_limit → bids_in answer ≤ bid_limit → paths ≤ path_limit
     → WrittenTo out 0 (reply_text answer told list answers paths results) (reply_text answer told list answers paths results) 0 out
 begun out answer told list answers paths results room few bids most =
@@ -34,10 +33,8 @@ put_last_row-requires c =
     let r = c.requires in
     let start = begun a.out.now a.answer a.told a.list.now a.answers.now a.paths a.results.now r.reply_room_in_bounds r.list_len_bound r.answer_bound.0
     r.paths_le_path_limit.0 in
-    let e =
-    reply-refused a.told a.list.now a.answers.now a.paths a.results.now c.in-Err.is
-    ∙ ap (λ (n : ℕ). last_row words.refused_mark (n ∷ []) ++ []) (sym c.number.ensures) in
-    let piece = last_row words.refused_mark (c.number.result ∷ []) in
+    let e = reply-refused a.told a.list.now a.answers.now a.paths a.results.now c.in-Err.is in
+    let piece = last_row words.refused_mark (c.in-Err.number ∷ []) in
     written-fits start piece [] e
 
 pub put_done-requires : goal.put_done-requires
@@ -81,10 +78,8 @@ returns-in-Err c =
     let r = c.requires in
     let start = begun a.out.now a.answer a.told a.list.now a.answers.now a.paths a.results.now r.reply_room_in_bounds r.list_len_bound r.answer_bound.0
     r.paths_le_path_limit.0 in
-    let e =
-    reply-refused a.told a.list.now a.answers.now a.paths a.results.now c.in-Err.is
-    ∙ ap (λ (n : ℕ). last_row words.refused_mark (n ∷ []) ++ []) (sym c.number.ensures) in
-    let piece = last_row words.refused_mark (c.number.result ∷ []) in
+    let e = reply-refused a.told a.list.now a.answers.now a.paths a.results.now c.in-Err.is in
+    let piece = last_row words.refused_mark (c.in-Err.number ∷ []) in
     let put = c.put_last_row in
     written-done (written_on start piece [] e put.ensures) refl
 

@@ -2,7 +2,7 @@
 -- all that `put_one` requires, that the sheet fits the buffer above all, and that the sheet is the output.
 use mathlib.Core.Path.{sym, ◌∙◌, ap}
 use native.Mathlib.Omega.{arith}
-use Rattle.market.proofs.Tables.{number-above}
+use Rattle.market.proofs.Tables.{told-number, told-none, told-above}
 use Rattle.market.specs.Answers.{answer_number}
 use Rattle.market.specs.declared.answer.Outcome.{Outcome}
 use Rattle.text_numbers.proofs.PutLaws.{put_is}
@@ -12,8 +12,10 @@ use Rattle.sheet_rounds.proofs.short_output.Goals as goal
 pub returns-in-Err : goal.returns-in-Err
 returns-in-Err c =
     let a = c.args in
-    let is = c.number.ensures ∙ ap answer_number (sym c.in-Err.is) ∙ ap (λ (o : Outcome). answer_number o.answer) c.round_of-outcome.ensures.outcome in
-    put_is (one-refused a.book a.bids.now a.listed.now is (λ none. number-above c.in-Err.refusal (sym c.number.ensures ∙ none))) c.refused.ensures
+    let o = c.round_of-outcome.result in
+    let told = sym c.numbered.ensures ∙ c.in-Err.is in
+    let is = told-number o.answer told ∙ ap (λ (o : Outcome). answer_number o.answer) c.round_of-outcome.ensures.outcome in
+    put_is (one-refused a.book a.bids.now a.listed.now is (told-above o.answer told)) c.refused.ensures
 
 -- the round was answered
 pub put_one-requires : goal.put_one-requires
@@ -23,7 +25,7 @@ put_one-requires c =
     let e = c.round_of-outcome.ensures in
     let d =
     one-done a.book a.bids.now a.listed.now p.sound_memory p.listed_len_bound p.listed_value e.outcome e.bids e.paths
-    (ap answer_number c.in_default.is) in
+    (told-none c.round_of-outcome.result.answer (sym c.numbered.ensures ∙ c.in_default.is)) in
     record {
       answered = d.lists;
       path_count_bound = d.paths;
@@ -38,5 +40,5 @@ returns c =
     let e = c.round_of-outcome.ensures in
     let d =
     one-done a.book a.bids.now a.listed.now p.sound_memory p.listed_len_bound p.listed_value e.outcome e.bids e.paths
-    (ap answer_number c.in_default.is) in
+    (told-none c.round_of-outcome.result.answer (sym c.numbered.ensures ∙ c.in_default.is)) in
     put_is d.output c.put_one.ensures

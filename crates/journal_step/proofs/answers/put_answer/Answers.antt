@@ -42,7 +42,7 @@ returns-in-Nothing c =
     let put = c.put_reply in
     let same =
     text-bare a.outcome a.amounts.now a.answers.now a.results.now offers.result.count offers.ensures.count a.tell
-    c.in-Nothing.is in
+    c.numbered-answer.result c.numbered-answer.ensures c.in-Nothing.is in
     put_is (sym same) put.ensures
 
 pub returns-in-Offers : goal.returns-in-Offers
@@ -52,7 +52,7 @@ returns-in-Offers c =
     let put = c.put_reply-in-Offers in
     let same =
     text-offers a.outcome a.amounts.now a.answers.now a.results.now offers.result.count offers.ensures.count a.tell
-    c.in-Offers.is (take offers.result.count offers.result.slots) offers.ensures.offers in
+    c.numbered-answer.result c.numbered-answer.ensures c.in-Offers.is (take offers.result.count offers.result.slots) offers.ensures.offers in
     put_is (sym same) put.ensures
 
 pub returns-in-Amounts : goal.returns-in-Amounts
@@ -61,5 +61,6 @@ returns-in-Amounts c =
     let offers = c.offers_of-offers in
     let put = c.put_reply-in-Amounts in
     let same =
-    text-amounts a.outcome a.amounts.now a.answers.now a.results.now offers.result.count offers.ensures.count a.tell c.in-Amounts.is in
+    text-amounts a.outcome a.amounts.now a.answers.now a.results.now offers.result.count offers.ensures.count a.tell
+    c.numbered-answer.result c.numbered-answer.ensures c.in-Amounts.is in
     put_is (sym same) put.ensures

@@ -2,11 +2,10 @@
 -- (`run_long`); these laws say what the output is, from what was read. Where open was answered its book is sound
 -- (`run-state`), as the rounds require.
 use borrow.Author.Rules.{rules}
-use mathlib.Core.Path.{ap, ◌≡◌, sym, ◌∙◌}
+use mathlib.Core.Path.{◌≡◌, sym, ◌∙◌}
 use native.Mathlib.Omega.{arith}
 use lib.ListN.{length}
-use Rattle.market.proofs.Tables.{number-above}
-use Rattle.market.specs.Answers.{answer_number}
+use Rattle.market.proofs.Tables.{told-number, told-none, told-above}
 use Rattle.text_numbers.proofs.PutLaws.{put_is}
 use Rattle.sheet_form.proofs.SheetLaws.{form-is-short}
 use Rattle.sheet_output.proofs.RunLaws.{paths-inside, bidders-inside, count-few, days-inside, Read, rows_few, all-rows, run-refused, Opened, run-state, listed-all, listed-few, run_short, run_long}
@@ -63,8 +62,9 @@ returns-in-Err c =
       kind-is = kind.ensures;
       days-are = days.ensures;
     } in
-    put_is (run-refused read c.opened-start.ensures (c.number.ensures ∙ ap answer_number (sym c.in-Err.is))
-    (λ none. number-above c.in-Err.refusal (sym c.number.ensures ∙ none))) c.refused.ensures
+    let answer = c.opened-start.result.answer in
+    let told = sym c.numbered.ensures ∙ c.in-Err.is in
+    put_is (run-refused read c.opened-start.ensures (told-number answer told) (told-above answer told)) c.refused.ensures
 
 pub numbers-numbers-requires : goal.numbers-numbers-requires
 numbers-numbers-requires c =
@@ -146,7 +146,7 @@ run_short-requires c =
     record {
       read = read;
       opens = c.opened-start.ensures;
-      none = ap answer_number c.in_default.is;
+      none = told-none c.opened-start.result.answer (sym c.numbered.ensures ∙ c.in_default.is);
       numbers-are = c.numbers-numbers.ensures;
     } in
     record {
@@ -179,7 +179,7 @@ run_long-requires c =
     record {
       read = read;
       opens = c.opened-start.ensures;
-      none = ap answer_number c.in_default.is;
+      none = told-none c.opened-start.result.answer (sym c.numbered.ensures ∙ c.in_default.is);
       numbers-are = c.numbers-numbers.ensures;
     } in
     record {
@@ -212,7 +212,7 @@ returns-in-Short c =
     record {
       read = read;
       opens = c.opened-start.ensures;
-      none = ap answer_number c.in_default.is;
+      none = told-none c.opened-start.result.answer (sym c.numbered.ensures ∙ c.in_default.is);
       numbers-are = c.numbers-numbers.ensures;
     } in
     put_is (run_short opened c.in-Short.is) c.run_short.ensures
@@ -238,7 +238,7 @@ returns-in-Long c =
     record {
       read = read;
       opens = c.opened-start.ensures;
-      none = ap answer_number c.in_default.is;
+      none = told-none c.opened-start.result.answer (sym c.numbered.ensures ∙ c.in_default.is);
       numbers-are = c.numbers-numbers.ensures;
     } in
     put_is (run_long opened c.in-Long.is) c.run_long.ensures
