@@ -43,11 +43,11 @@ round-pieces bids answers paths results =
     append_assoc (counted ++ answered) (path_rows_text paths results) (newline ∷ [])
     ∙ append_assoc counted answered (path_rows_text paths results ++ (newline ∷ []))
 
--- what a call answers, by the answer that was matched in it
-pub told-is : {answer : Result Answer ℕ} {given other : Answer} → answer ≡ Ok given → given ≡ other → answer ≡ Ok other
-told-is is same = is ∙ ap (λ (x : Answer). the-answer x) same
+-- what a call answers, by the answer that was matched in it; a refusal may be itself or its number
+pub told-is : {R : Type 0} {answer : Result Answer R} {given other : Answer} → answer ≡ Ok given → given ≡ other → answer ≡ Ok other
+told-is {R} is same = is ∙ ap (λ (x : Answer). the-answer x) same
   where
-    the-answer : Answer → Result Answer ℕ
+    the-answer : Answer → Result Answer R
     the-answer x = Ok x
 
 -- the reply by the answer of its call, as one piece with nothing after it
